@@ -1,0 +1,4 @@
+pub mod Bits
+pub mod Chip
+pub mod Signal
+pub mod Writing

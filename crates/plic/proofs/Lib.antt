@@ -1,0 +1,3 @@
+pub mod Race
+pub mod Packing
+pub mod Empty

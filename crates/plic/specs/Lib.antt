@@ -1,0 +1,5 @@
+pub mod Gateways
+pub mod Chip
+pub mod Words
+pub mod Registers
+pub mod Access
