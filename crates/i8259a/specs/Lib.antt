@@ -2,3 +2,4 @@ pub mod Bits
 pub mod Chip
 pub mod Signal
 pub mod Writing
+pub mod Laws

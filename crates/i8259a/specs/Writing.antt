@@ -24,8 +24,11 @@ abbrev pub icw1Modelled : ℕ → Bool
 icw1Modelled b = bit b 0 && (bit b 3 && not (bit b 1))
 
 -- OCW2 with 001, 011 or 010 in bits 7 to 5.
+abbrev pub isCommand : ℕ → Bool
+isCommand k = eqb k 1 || (eqb k 3 || eqb k 2)
+
 abbrev pub ocw2Modelled : ℕ → Bool
-ocw2Modelled b = eqb (b / 32) 1 || (eqb (b / 32) 3 || eqb (b / 32) 2)
+ocw2Modelled b = isCommand (b / 32)
 
 -- OCW3 with no special mask (bits 6 and 5), no poll (bit 2), and bit 7 clear.
 abbrev pub ocw3Modelled : ℕ → Bool

@@ -1,6 +1,7 @@
 // A chip's registers, its lines, its signal and its acknowledge.
 ghost use mathlib.Core.Path.{_≡_};
 ghost use Rattle.i8259a.specs.Chip.{fresh, lineAnswer, risen, fallen, shown, readAnswer};
+ghost use Rattle.i8259a.specs.Laws.{ChipLaws};
 ghost use Rattle.i8259a.specs.Signal.{Signals, Acknowledges, Firsts, ahead};
 use crate::bits::lowest;
 use crate::bits::with;
@@ -54,9 +55,10 @@ pub struct I8259a {
 }
 
 impl I8259a {
-    // All zero, IRR selected, not set up.
+    // All zero, IRR selected, not set up. Whoever makes a chip learns the laws of its calls.
     pub fn new() -> I8259a
-        ensures { λ r. ⌜ r ≡ fresh ⌝ }
+        ensures value { λ r. ⌜ r ≡ fresh ⌝ }
+        ensures laws { λ _. ⌜ ChipLaws ⌝ }
     {
         I8259a {
             irr: 0,

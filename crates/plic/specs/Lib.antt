@@ -3,3 +3,4 @@ pub mod Chip
 pub mod Words
 pub mod Registers
 pub mod Access
+pub mod Laws

@@ -3,6 +3,7 @@
 ghost use mathlib.Core.Path.{_≡_};
 ghost use Prim.Native.Nat.{ℕ};
 ghost use Rattle.plic.specs.Chip.{fresh, Rises, Falls, Completes, Leaves, Firsts, Claims, Signals};
+ghost use Rattle.plic.specs.Laws.{ChipLaws};
 ghost use Rattle.plic.specs.Registers.{There};
 ghost use Rattle.plic.specs.Access.{Reading, Reads, Writing, Writes};
 use crate::gateway::Gateway;
@@ -23,9 +24,10 @@ pub struct Plic<const N: usize> {
 }
 
 impl<const N: usize> Plic<N> {
-    // All zero: every source idle, low, not enabled and of priority 0.
+    // All zero: every source idle, low, not enabled and of priority 0. Whoever makes a PLIC learns the laws of its calls.
     pub fn new() -> Plic<N>
-        ensures { λ r. ⌜ r ≡ fresh N ⌝ }
+        ensures value { λ r. ⌜ r ≡ fresh N ⌝ }
+        ensures laws { λ _. ⌜ ChipLaws N ⌝ }
     {
         let gateway = Gateway::new();
         Plic {
