@@ -5,4 +5,5 @@ mod driver;
 mod ports;
 
 pub use chip::I8259a;
+pub use chip::I8259aPartialEq;
 pub use driver::set_up;

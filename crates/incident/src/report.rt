@@ -1,0 +1,31 @@
+// One printed line for each thing done, with what the chip answered.
+use controller::Refusal;
+use controller::RefusalDisplay;
+use std::io;
+
+pub fn done(rt: &LibcRuntime, what: &str, answer: Result<(), Refusal>) -> io::Result<()> {
+    match answer {
+        Ok(()) => println!(rt, "  {what}: done"),
+        Err(refusal) => refused(rt, what, refusal),
+    }
+}
+
+pub fn yes_or_no(rt: &LibcRuntime, what: &str, answer: bool) -> io::Result<()> {
+    if answer {
+        println!(rt, "  {what}: yes")
+    } else {
+        println!(rt, "  {what}: no")
+    }
+}
+
+pub fn number(rt: &LibcRuntime, what: &str, answer: Result<u32, Refusal>) -> io::Result<()> {
+    match answer {
+        Ok(value) => println!(rt, "  {what}: {value}"),
+        Err(refusal) => refused(rt, what, refusal),
+    }
+}
+
+fn refused(rt: &LibcRuntime, what: &str, refusal: Refusal) -> io::Result<()> {
+    let number = refusal.number();
+    println!(rt, "  {what}: refused ({number}), {refusal}")
+}
