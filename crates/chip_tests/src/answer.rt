@@ -19,7 +19,7 @@ pub const NOT_MODELLED: Answer = Answer::Refused(10);
 pub const NO_SUCH_ADDRESS: Answer = Answer::Refused(11);
 
 // Of a call that tells nothing once it is carried out.
-pub fn done(result: Result<(), Refusal>) -> Answer {
+pub(crate) fn done(result: Result<(), Refusal>) -> Answer {
     match result {
         Ok(()) => Answer::Done,
         Err(why) => Answer::Refused(why.number()),
@@ -27,7 +27,7 @@ pub fn done(result: Result<(), Refusal>) -> Answer {
 }
 
 // Of a call that tells a byte.
-pub fn byte(result: Result<u8, Refusal>) -> Answer {
+pub(crate) fn byte(result: Result<u8, Refusal>) -> Answer {
     match result {
         Ok(value) => Answer::Value(u32::from(value)),
         Err(why) => Answer::Refused(why.number()),
@@ -35,7 +35,7 @@ pub fn byte(result: Result<u8, Refusal>) -> Answer {
 }
 
 // Of a call that tells a word.
-pub fn word(result: Result<u32, Refusal>) -> Answer {
+pub(crate) fn word(result: Result<u32, Refusal>) -> Answer {
     match result {
         Ok(value) => Answer::Value(value),
         Err(why) => Answer::Refused(why.number()),
@@ -43,7 +43,7 @@ pub fn word(result: Result<u32, Refusal>) -> Answer {
 }
 
 // Of the question whether a chip signals.
-pub fn signal(signals: bool) -> Answer {
+pub(crate) fn signal(signals: bool) -> Answer {
     if signals {
         Answer::Signals
     } else {

@@ -13,7 +13,7 @@ const THRESHOLD: u32 = 0x200000;
 
 const CLAIM_COMPLETE: u32 = 0x200004;
 
-pub fn tell(rt: &LibcRuntime) -> io::Result<()> {
+pub(crate) fn tell(rt: &LibcRuntime) -> io::Result<()> {
     let mut chip = Plic::<64>::new();
     report::number(rt, "read of offset 0x000002", chip.read(0x000002))?;
     report::done(

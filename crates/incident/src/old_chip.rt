@@ -9,7 +9,7 @@ const STIRRER: u16 = 5;
 
 const PROBE: u16 = 3;
 
-pub fn tell(rt: &LibcRuntime) -> io::Result<()> {
+pub(crate) fn tell(rt: &LibcRuntime) -> io::Result<()> {
     let mut chip = I8259a::new();
     report::number(
         rt,

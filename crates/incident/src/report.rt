@@ -3,14 +3,14 @@ use controller::Refusal;
 use controller::RefusalDisplay;
 use std::io;
 
-pub fn done(rt: &LibcRuntime, what: &str, answer: Result<(), Refusal>) -> io::Result<()> {
+pub(crate) fn done(rt: &LibcRuntime, what: &str, answer: Result<(), Refusal>) -> io::Result<()> {
     match answer {
         Ok(()) => println!(rt, "  {what}: done"),
         Err(refusal) => refused(rt, what, refusal),
     }
 }
 
-pub fn yes_or_no(rt: &LibcRuntime, what: &str, answer: bool) -> io::Result<()> {
+pub(crate) fn yes_or_no(rt: &LibcRuntime, what: &str, answer: bool) -> io::Result<()> {
     if answer {
         println!(rt, "  {what}: yes")
     } else {
@@ -18,7 +18,7 @@ pub fn yes_or_no(rt: &LibcRuntime, what: &str, answer: bool) -> io::Result<()> {
     }
 }
 
-pub fn number(rt: &LibcRuntime, what: &str, answer: Result<u32, Refusal>) -> io::Result<()> {
+pub(crate) fn number(rt: &LibcRuntime, what: &str, answer: Result<u32, Refusal>) -> io::Result<()> {
     match answer {
         Ok(value) => println!(rt, "  {what}: {value}"),
         Err(refusal) => refused(rt, what, refusal),
