@@ -23,7 +23,7 @@ use Rattle.i8259a.specs.Signal.{SetUp, InService, Urgent, NoneUrgent, First, A
 use Rattle.i8259a.specs.Writing.{writeAnswer, writeAfter, written, icw1Modelled, ocw2Modelled, isCommand, ready, ended, restarted}
 use Rattle.i8259a.specs.Laws.{Newest, Ends, Starts, Ocw2, afterFour, Laws, ChipLaws}
 use Rattle.i8259a.proofs.Sets.{bit-with, bit-without}
-use Rattle.i8259a.proofs.Lowest.{Lowest, lowest-is, one-lowest}
+use Rattle.i8259a.proofs.LowestLevels.{Lowest, lowest-is, one-lowest}
 
 -- A write that is accepted does what is written.
 accepted : (c : I8259a) (port b : ℕ) → writeAnswer c port b ≡ Ok tt → writeAfter c port b ≡ written c port b

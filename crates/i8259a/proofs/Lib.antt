@@ -1,4 +1,4 @@
 pub mod Sets
-pub mod Lowest
+pub mod LowestLevels
 pub mod Race
 pub mod ChipLaws

@@ -16,7 +16,7 @@ use Rattle.i8259a.specs.declared.chip.I8259a.{I8259a}
 use Rattle.i8259a.specs.Bits.{bit, Levels, outside, lowest}
 use Rattle.i8259a.specs.Signal.{Requests, InService, Urgent, First, Firsts, ahead}
 use Rattle.i8259a.proofs.Sets.{bit-outside}
-use Rattle.i8259a.proofs.Lowest.{Lowest, lowest-is, one-lowest}
+use Rattle.i8259a.proofs.LowestLevels.{Lowest, lowest-is, one-lowest}
 
 module _ (x : ℕ) (ls : List (Option Level)) (levels : Levels x ls) where
   holds : (n : ℕ) → n < 8 → bit x n ≡ true → Holds ls n (record { 0 = n })

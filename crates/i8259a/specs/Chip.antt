@@ -1,5 +1,5 @@
 -- A chip's state, its lines and what its ports read as.
-use mathlib.Core.Bool.{Bool, true, false, cond}
+use mathlib.Core.Bool.{Bool, true, false, cond, _&&_}
 use Prim.Native.Nat.{ℕ}
 use lib.Dec.{eqb, ltb}
 use Rattle.std.specs.declared.result.Result.{Result}
@@ -12,7 +12,7 @@ use Rattle.i8259a.specs.declared.chip.Register.{Register}
 use Rattle.i8259a.specs.declared.chip.Register.the-variants.{Irr, Isr}
 use Rattle.i8259a.specs.declared.chip.Step.{Step}
 use Rattle.i8259a.specs.declared.chip.Step.the-variants.{Icw1, Icw2, Icw3, Icw4, Done}
-use Rattle.i8259a.specs.Bits.{with, without}
+use Rattle.i8259a.specs.Bits.{bit, with, without}
 
 -- A new chip: all zero, IRR selected, not set up.
 abbrev pub fresh : I8259a
@@ -53,6 +53,10 @@ isPort port = ltb port 2
 abbrev pub shown : Register → ℕ → ℕ → ℕ
 shown Irr irr isr = irr
 shown Isr irr isr = isr
+
+-- The bit of level n in a register that port 0 can read as; there is none above level 7.
+abbrev pub shows : I8259a → Register → ℕ → Bool
+shows c register n = isLine n && bit (shown register (c .irr) (c .isr)) n
 
 -- Port 1 reads as the mask, port 0 as the selected register.
 abbrev pub readAnswer : I8259a → ℕ → Result ℕ Refusal

@@ -38,7 +38,7 @@ pub(crate) fn without_lowest(x: u8) -> u8
 }
 
 // The lowest level of the set, by the arbitration tree.
-pub(crate) fn lowest(x: u8) -> Option<u8>
+pub fn lowest(x: u8) -> Option<u8>
     ensures value { λ r. ⌜ r ≡ lowest x ⌝ }
     ensures level { λ r. ⌜ found r (λ n. n < 8) ⌝ }
 {

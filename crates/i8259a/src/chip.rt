@@ -20,7 +20,7 @@ pub(crate) enum Step {
 
 // A register that port 0 can read as.
 #[derive(Clone, Copy, PartialEq, Eq, Debug)]
-pub(crate) enum Register {
+pub enum Register {
     Irr,
     Isr,
 }
@@ -33,7 +33,7 @@ pub(crate) struct ReadSelect {
 
 impl ReadSelect {
     // What port 0 reads as, over the two registers.
-    fn shown(&self, irr: u8, isr: u8) -> u8
+    pub(crate) fn shown(&self, irr: u8, isr: u8) -> u8
         ensures { λ r. ⌜ r ≡ shown (now (self .entry) .register) irr isr ⌝ }
     {
         match self.register {

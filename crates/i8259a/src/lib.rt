@@ -2,8 +2,11 @@
 mod bits;
 mod chip;
 mod driver;
+mod look;
 mod ports;
 
+pub use bits::lowest;
 pub use chip::I8259a;
 pub use chip::I8259aPartialEq;
+pub use chip::Register;
 pub use driver::set_up;

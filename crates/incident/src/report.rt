@@ -1,4 +1,6 @@
-// One printed line for each thing done, with what the chip answered.
+// One printed line for each thing done, with what was answered.
+use controller::Answer;
+use controller::AnswerDisplay;
 use controller::Refusal;
 use controller::RefusalDisplay;
 use std::io;
@@ -22,6 +24,24 @@ pub(crate) fn number(rt: &LibcRuntime, what: &str, answer: Result<u32, Refusal>)
     match answer {
         Ok(value) => println!(rt, "  {what}: {value}"),
         Err(refusal) => refused(rt, what, refusal),
+    }
+}
+
+pub(crate) fn answer(
+    rt: &LibcRuntime,
+    what: &str,
+    answer: Result<Answer, Refusal>,
+) -> io::Result<()> {
+    match answer {
+        Ok(word) => println!(rt, "  {what}: {word}"),
+        Err(refusal) => refused(rt, what, refusal),
+    }
+}
+
+pub(crate) fn line(rt: &LibcRuntime, what: &str, answer: Option<u16>) -> io::Result<()> {
+    match answer {
+        Some(line) => println!(rt, "  {what}: {line}"),
+        None => println!(rt, "  {what}: NONE"),
     }
 }
 

@@ -3,3 +3,4 @@ pub mod Packing
 pub mod Empty
 pub mod Reading
 pub mod ChipLaws
+pub mod Offsets

@@ -32,6 +32,10 @@ fresh N = record { gateways = replicate N blank; threshold = 0 }
 abbrev pub gate : (N : ℕ) → Plic N → ℕ → Gateway
 gate N p n = getD (p .gateways) n blank
 
+-- What a question about number n shows: past the last source a blank gateway.
+abbrev pub gatewayOf : (N : ℕ) → Plic N → ℕ → Gateway
+gatewayOf N p n = cond (ltb n (min N 1024)) (gate N p n) blank
+
 -- One gateway is exchanged, and nothing else.
 abbrev pub withGate : (N : ℕ) → Plic N → ℕ → Gateway → Plic N
 withGate N p n g = record { gateways = set (p .gateways) n g; threshold = p .threshold }

@@ -2,7 +2,7 @@
 // that is no source, whatever N is.
 ghost use mathlib.Core.Path.{_≡_};
 ghost use Prim.Native.Nat.{ℕ};
-ghost use Rattle.plic.specs.Chip.{fresh, Rises, Falls, Completes, Leaves, Firsts, Claims, Signals};
+ghost use Rattle.plic.specs.Chip.{fresh, Rises, Falls, Completes, Leaves, Firsts, Claims, Signals, gatewayOf};
 ghost use Rattle.plic.specs.Laws.{ChipLaws};
 ghost use Rattle.plic.specs.Registers.{There};
 ghost use Rattle.plic.specs.Access.{Reading, Reads, Writing, Writes};
@@ -58,6 +58,18 @@ impl<const N: usize> Plic<N> {
         }
         self.gateways[n].fall();
         Ok(())
+    }
+
+    // The gateway record of number n; a blank one past the last.
+    pub fn gateway(&self, n: u16) -> Gateway
+        ensures { λ r. ⌜ r ≡ gatewayOf N (now (self .entry)) n ⌝ }
+    {
+        let n = usize::from(n);
+        if n < limit(&self.gateways) {
+            self.gateways[n]
+        } else {
+            Gateway::new()
+        }
     }
 
     // Whether the context is signalled: some enabled pending source has a priority above the threshold.

@@ -19,18 +19,18 @@ pub(crate) fn limit<const N: usize>(gateways: &[Gateway; N]) -> usize
 
 // Where a source's request stands.
 #[derive(Clone, Copy)]
-pub(crate) enum Request {
+pub enum Request {
     Idle,
     Pending,
     Claimed,
 }
 
 #[derive(Clone, Copy)]
-pub(crate) struct Gateway {
-    pub(crate) request: Request,
-    pub(crate) high: bool,
-    pub(crate) enabled: bool,
-    pub(crate) priority: u8,
+pub struct Gateway {
+    pub request: Request,
+    pub high: bool,
+    pub enabled: bool,
+    pub priority: u8,
 }
 
 impl Gateway {

@@ -5,3 +5,5 @@ mod registers;
 mod words;
 
 pub use chip::Plic;
+pub use gateway::Gateway;
+pub use gateway::Request;

@@ -1,0 +1,4 @@
+pub mod Marks
+pub mod Stacks
+pub mod Keeping
+pub mod RuleLaws

@@ -1,0 +1,6 @@
+use borrow.Author.Needs.{needs}
+use Rattle.controller.proofs.RuleLaws.{rule-laws}
+use Rattle.i8259a_controller.proofs.unit.I8259aController.new.Needs as need
+
+pub returns : need.returns
+returns c = record { sound = search needs; chip = search needs; laws = rule-laws }
