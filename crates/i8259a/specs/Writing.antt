@@ -30,11 +30,11 @@ isCommand k = eqb k 1 || (eqb k 3 || eqb k 2)
 abbrev pub ocw2Modelled : ℕ → Bool
 ocw2Modelled b = isCommand (b / 32)
 
--- OCW3 with no special mask (bits 6 and 5), no poll (bit 2), and bit 7 clear.
+-- OCW3 with bit 7 clear, no special mask command (bit 6) and no poll (bit 2).
 abbrev pub ocw3Modelled : ℕ → Bool
 ocw3Modelled b = not (bit b 7 || (bit b 6 || bit b 2))
 
--- A byte to port 0 is ICW1, OCW3 or OCW2 by its bits 4 and 3; of those to port 1 only ICW4 is checked.
+-- Of the bytes to port 1 only ICW4 is checked.
 abbrev pub icw4Modelled : Step → ℕ → Bool
 icw4Modelled Icw1 b = true
 icw4Modelled Icw2 b = true
@@ -42,6 +42,7 @@ icw4Modelled Icw3 b = true
 icw4Modelled Icw4 b = eqb b 1
 icw4Modelled Done b = true
 
+-- A byte to port 0 is ICW1, OCW3 or OCW2 by its bits 4 and 3.
 abbrev pub isModelled : Step → ℕ → ℕ → Bool
 isModelled s port b =
     cond (eqb port 0) (cond (bit b 4) (icw1Modelled b) (cond (bit b 3) (ocw3Modelled b) (ocw2Modelled b))) (icw4Modelled s b)

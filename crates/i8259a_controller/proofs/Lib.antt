@@ -1,3 +1,4 @@
 pub mod Levels
 pub mod Signals
 pub mod Calls
+pub mod Fresh

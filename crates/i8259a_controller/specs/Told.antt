@@ -48,3 +48,7 @@ pub record Sound (c : I8259a) : Type 0 where
 -- The chip of a controller just made: set up, all masked, nothing high, nothing in service.
 abbrev pub made : I8259a
 made = record { irr = 0; isr = 0; imr = 255; select = record { register = Irr }; icw2 = 0x08; icw3 = 0; step = Done }
+
+-- What it tells: every line is shut, low and idle, and none is in service.
+abbrev pub fresh : Meaning
+fresh = record { fixed = eight; state = record { opened = λ _. false; high = λ _. false; waiting = λ _. false; stack = [] } }

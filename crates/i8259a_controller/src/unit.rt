@@ -5,7 +5,7 @@ ghost use Rattle.controller.specs.Laws.{RuleLaws};
 ghost use Rattle.controller.specs.Meaning.{Keeps};
 ghost use Rattle.controller.specs.Rules.{Rises, Falls, Opens, Shuts, Takes, Finishes, newest};
 ghost use Rattle.i8259a.specs.Chip.{risen, fallen};
-ghost use Rattle.i8259a_controller.specs.Told.{meant, Sound, made};
+ghost use Rattle.i8259a_controller.specs.Told.{meant, Sound, made, fresh};
 ghost use Rattle.i8259a_controller.specs.Steps.{openedChip, shutChip, finishedChip, TakesLevel};
 use crate::steps;
 use controller::Answer;
@@ -26,6 +26,7 @@ impl I8259aController {
     pub fn new() -> I8259aController
         ensures sound { λ r. ⌜ Sound (r .chip) ⌝ }
         ensures chip { λ r. ⌜ r .chip ≡ made ⌝ }
+        ensures told { λ r. ⌜ meant (r .chip) ≡ fresh ⌝ }
         ensures laws { λ _. ⌜ RuleLaws ⌝ }
     {
         let mut chip = I8259a::new();

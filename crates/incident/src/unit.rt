@@ -3,31 +3,40 @@ use crate::report;
 use controller::Controller;
 use std::io;
 
-const STIRRER: u16 = 5;
-
-const PROBE: u16 = 3;
-
-pub(crate) fn tell<C: Controller>(rt: &LibcRuntime, unit: &mut C) -> io::Result<()> {
-    report::answer(rt, "open the stirrer's line 5", unit.open(STIRRER))?;
-    report::answer(rt, "open the probe's line 3", unit.open(PROBE))?;
-    serve_the_stirrer(rt, unit)?;
-    lose_the_probe(rt, unit)
+// The lines that the two devices raise.
+#[derive(Clone, Copy)]
+pub(crate) struct Devices {
+    pub(crate) stirrer: u16,
+    pub(crate) probe: u16,
 }
 
-fn serve_the_stirrer<C: Controller>(rt: &LibcRuntime, unit: &mut C) -> io::Result<()> {
-    report::answer(rt, "rise of line 5", unit.rise(STIRRER))?;
+pub(crate) fn tell<C: Controller>(
+    rt: &LibcRuntime,
+    unit: &mut C,
+    devices: Devices,
+) -> io::Result<()> {
+    let Devices { stirrer, probe } = devices;
+    report::answer(rt, "open", stirrer, unit.open(stirrer))?;
+    report::answer(rt, "open", probe, unit.open(probe))?;
+    serve(rt, unit, stirrer)?;
+    lose(rt, unit, probe)
+}
+
+// A line rises, is taken, and is finished.
+fn serve<C: Controller>(rt: &LibcRuntime, unit: &mut C, n: u16) -> io::Result<()> {
+    report::answer(rt, "rise", n, unit.rise(n))?;
     report::line(rt, "take", unit.take())?;
-    report::answer(rt, "shut line 5", unit.shut(STIRRER))?;
-    report::answer(rt, "fall of line 5", unit.fall(STIRRER))?;
-    report::answer(rt, "finish line 5", unit.finish(STIRRER))
+    report::answer(rt, "shut", n, unit.shut(n))?;
+    report::answer(rt, "fall", n, unit.fall(n))?;
+    report::answer(rt, "finish", n, unit.finish(n))
 }
 
-// The probe's line falls inside the one moment between the signal and the take.
-fn lose_the_probe<C: Controller>(rt: &LibcRuntime, unit: &mut C) -> io::Result<()> {
-    report::answer(rt, "rise of line 3", unit.rise(PROBE))?;
+// A line falls inside the one moment between the signal and the take.
+fn lose<C: Controller>(rt: &LibcRuntime, unit: &mut C, n: u16) -> io::Result<()> {
+    report::answer(rt, "rise", n, unit.rise(n))?;
     report::yes_or_no(rt, "signal", unit.signal())?;
-    report::answer(rt, "fall of line 3", unit.fall(PROBE))?;
+    report::answer(rt, "fall", n, unit.fall(n))?;
     report::line(rt, "take", unit.take())?;
     report::line(rt, "newest in service", unit.newest())?;
-    report::answer(rt, "finish line 3", unit.finish(PROBE))
+    report::answer(rt, "finish", n, unit.finish(n))
 }

@@ -1,0 +1,4 @@
+pub mod Tables
+pub mod Snapshots
+pub mod Replies
+pub mod Claims
