@@ -2,13 +2,14 @@
 use mathlib.Core.Path.{_≡_, refl, sym, subst, subst₂, _∙_}
 use mathlib.Core.Bool.{Bool, true, false, cond}
 use mathlib.Core.Logic.{_⊎_, ⊎-elim}
-use Prim.Native.Nat.{ℕ, zero, suc, _+_, _-_, _<_, _≤_}
+use Prim.Native.Nat.{ℕ, _+_, _-_, _<_, _≤_}
 use native.Mathlib.Omega.{arith}
 use lib.Dec.{ltb}
 use Rattle.std.proofs.shelf.Tests.{cases-lt, le-ltb, both-ways}
 use Rattle.controller.specs.Meaning.{Meaning, among}
 use Rattle.controller.specs.Rules.{so, otherwise}
 use Rattle.controller.proofs.Stacks.{below-not, among-below}
+use Rattle.i8259a.proofs.Sets.{each8}
 use Rattle.i8259a_controller.specs.Told.{eight, fresh}
 use Rattle.cascade.specs.Pile.{side, pileLine, pile}
 use Rattle.cascade.specs.Fit.{isFit, Makes}
@@ -17,18 +18,6 @@ use Rattle.units.specs.Old.{byRank, Increasing, classOf, OldUnit}
 
 abbrev chip : Meaning
 chip = fresh
-
--- A fact of each level.
-each8 : (P : ℕ → Type 0) → P 0 → P 1 → P 2 → P 3 → P 4 → P 5 → P 6 → P 7 → (m : ℕ) → m < 8 → P m
-each8 P a b c d e f g h zero l = a
-each8 P a b c d e f g h (suc zero) l = b
-each8 P a b c d e f g h (suc (suc zero)) l = c
-each8 P a b c d e f g h (suc (suc (suc zero))) l = d
-each8 P a b c d e f g h (suc (suc (suc (suc zero)))) l = e
-each8 P a b c d e f g h (suc (suc (suc (suc (suc zero))))) l = f
-each8 P a b c d e f g h (suc (suc (suc (suc (suc (suc zero)))))) l = g
-each8 P a b c d e f g h (suc (suc (suc (suc (suc (suc (suc zero))))))) l = h
-each8 P a b c d e f g h (suc (suc (suc (suc (suc (suc (suc (suc m)))))))) l = absurd (omega arith)
 
 -- A fact of each number below 16 and of every other.
 by-chip : (P : ℕ → Type 0) → ((n : ℕ) → n < 8 → P n) → ((m : ℕ) → m < 8 → P (8 + m)) → ((n : ℕ) → 16 ≤ n → P n) → (n : ℕ) → P n
