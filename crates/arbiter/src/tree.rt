@@ -14,7 +14,7 @@ struct Entrant<K> {
 
 // One match: the left entrant, of the lower leaf, goes on if its key comes first or equals the right one's.
 fn play<K: Key + Copy>(left: Option<Entrant<K>>, right: Option<Entrant<K>>) -> Option<Entrant<K>>
-    ensures { result ≡ played leq left right }
+    ensures { result ≡ played K.leq left right }
 {
     match (left, right) {
         (Some(l), Some(r)) => { if l.key.leads(r.key) { Some(l) } else { Some(r) } }
@@ -26,7 +26,7 @@ fn play<K: Key + Copy>(left: Option<Entrant<K>>, right: Option<Entrant<K>>) -> O
 // The best of the leaves from `from` up to `to`, by a match between the best of each half.
 fn best<K: Key + Copy>(leaves: &[Option<K>], from: usize, to: usize) -> Option<Entrant<K>>
     requires { (from ≤ to) × (to ≤ length leaves.now) }
-    ensures { Best leq leaves.now from to result }
+    ensures { Best K.leq leaves.now from to result }
 {
     if from == to {
         return None;
@@ -46,8 +46,8 @@ fn best<K: Key + Copy>(leaves: &[Option<K>], from: usize, to: usize) -> Option<E
 
 // The leaf that holds the first key, the lower leaf among equal keys; none if every leaf is empty.
 pub fn winner<K: Key + Copy>(leaves: &[Option<K>]) -> Option<usize>
-    ensures wins { Winner leq leaves.now result }
-    ensures alone { (other : Option ℕ) → Winner leq leaves.now other → other ≡ result }
+    ensures wins { Winner K.leq leaves.now result }
+    ensures alone { (other : Option ℕ) → Winner K.leq leaves.now other → other ≡ result }
 {
     match best(leaves, 0, leaves.len()) {
         Some(entrant) => Some(entrant.leaf),

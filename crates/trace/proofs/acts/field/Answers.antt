@@ -3,4 +3,4 @@ use Rattle.trace.proofs.Fields.{first_of}
 use Rattle.trace.proofs.acts.field.Goals as goal
 
 pub returns-in-len1-up : goal.returns-in-len1-up
-returns-in-len1-up c = first_of c.args.set c.args.bytes.now c.length-if_set.true (search rules)
+returns-in-len1-up c = first_of c.args.set c.args.bytes.now c.if-set.true (search rules)
