@@ -1,19 +1,21 @@
 #!/usr/bin/env python3
 """Spells the names of the repository's own definitions as Rattle's style asks: words in snake case.
 
-usage: python3 tools/snake_names.py          in the repository: rewrites crates/ in place
+usage: python3 tools/snake_names.py          in the repository, once: rewrites crates/ in place
        python3 tools/snake_names.py --list   only prints each name with what it becomes
 
 A name is the repository's own if a file of specs/ or proofs/ declares it. Names in camel case become snake case, and so do
-fields and cases that have a dash. A lemma keeps its dashes, which join two names, as in `length-drop`. Names that Rattle makes
-for goals and calls, functions of src/, strings and comments keep their spelling.
+fields and cases that have a dash; a type that has a dash becomes camel case. A lemma keeps its dashes, which join two names, as
+in `length-drop`. Names that Rattle makes for goals and calls, functions of src/, strings and comments keep their spelling.
 """
 import os
 import re
 import sys
 
 WORD = r"[a-z][\w']*(?:-[\w']+)*"
-TOKEN = re.compile(r"(?<![\w'\-])(" + WORD + r")(?![\w'\-])")
+TYPE = r"[A-Z][\w']*(?:-[\w']+)+"
+TOKEN = re.compile(r"(?<![\w'\-])(" + WORD + "|" + TYPE + r")(?![\w'\-])")
+TYPES = re.compile(r"^[ \t]*(?:(?:pub|abbrev|unfoldable|record|data)\s+)+(" + TYPE + r")\s.*:", re.M)
 DECLARED = re.compile(r"^([ \t]*)((?:(?:pub|abbrev|unfoldable)\s+)*)(" + WORD + r")\s+:\s", re.M)
 HEAD = re.compile(r"^[ \t]*(?:pub\s+)?(?:record|data)\b")
 SKIPPED = re.compile(r'--[^\n]*|"[^"\n]*"')
@@ -21,14 +23,14 @@ SKIPPED_RT = re.compile(r'//[^\n]*|"(?:[^"\\\n]|\\.)*"')
 
 # Names that would fall together with another.
 APART = {
-    "crates/replay": {"passed_on": "passed_on-does"},
-    "crates/worked_cases": {
+    "crates/replay/": {"passed_on": "passed_on-does"},
+    "crates/worked_cases/": {
         "first_below": "first_below-found",
         "eightDeep": "eight_deep_script",
         "sevenAlone": "seven_alone_script",
         "sevenAndAFall": "seven_and_a_fall_script",
     },
-    "crates/trace": {"on_line": "length-on_line", "if-set": "length-if_set"},
+    "crates/trace/proofs/Inverses.antt": {"on_line": "length-on_line", "if-set": "length-if_set"},
 }
 
 
@@ -93,6 +95,8 @@ def own_names():
                 to = "-".join(snake(part) for part in name.split("-"))
             if to != name:
                 names.setdefault(name, to)
+        for name in TYPES.findall(text):
+            names.setdefault(name, "".join(w[0].upper() + w[1:] for w in name.split("-")))
     return names
 
 
@@ -114,9 +118,9 @@ def main():
         for path in files(ending):
             here = dict(names)
             if ending == ".rt":
-                here = {n: t for n, t in names.items() if "-" not in n}
+                here = {n: t for n, t in names.items() if "-" not in n or n[0].isupper()}
             for crate, apart in APART.items():
-                if path.startswith(crate + "/") and ending == ".antt":
+                if path.startswith(crate) and ending == ".antt":
                     here.update(apart)
             text = read(path)
             new = respell(text, skipped, here)

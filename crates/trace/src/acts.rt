@@ -1,7 +1,7 @@
 // The decoder: the acts that a record names.
 ghost use Rattle.std.specs.Prelude.{◌≡◌};
 ghost use Rattle.trace.specs.Decoding.{line, past, decoded, act_at};
-ghost use Rattle.trace.specs.Inverse.{Written-back};
+ghost use Rattle.trace.specs.Inverse.{WrittenBack};
 
 use crate::map::{FALL, FINISH, OPEN, RISE, SHUT, TAKE, has};
 use crate::reader::Record;
@@ -58,7 +58,7 @@ impl Record<'_> {
     // The acts that the record names; none where it has no bytes.
     pub fn acts(&self) -> Acts
         ensures decodes { result ≡ decoded self.now.bytes.now }
-        ensures inverse { Written-back result self.now.bytes.now }
+        ensures inverse { WrittenBack result self.now.bytes.now }
     {
         let [map, rest @ ..] = self.bytes else {
             return Acts {

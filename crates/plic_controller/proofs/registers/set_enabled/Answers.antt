@@ -5,5 +5,5 @@ pub returns-in-Ok : goal.returns-in-Ok
 returns-in-Ok c source =
     writes-enable 64 _ _ _ c.args.n c.in-Ok.word c.with-bit.result c.args.on c.write.result source c.in-Ok.ensures c.with-bit.ensures c.write.ensures
 
-pub returns-in-default : goal.returns-in-default
-returns-in-default c source = absurd (enable-there 64 _ _ c.args.n _ source c.in-default.ensures)
+pub returns-in_default : goal.returns-in_default
+returns-in_default c source = absurd (enable-there 64 _ _ c.args.n _ source c.in_default.ensures)
