@@ -1,15 +1,12 @@
 // The pile: an outer controller, the line k of it, and the inner one that hangs from k.
 ghost use Rattle.std.specs.Prelude.{◌≡◌, ◌&&◌};
-ghost use Rattle.controller.specs.Meaning.{Keeps, Lawful};
+ghost use Rattle.controller.specs.Meaning.{Keeps};
 ghost use Rattle.controller.specs.Rules.{Rises, Falls, Opens, Shuts, Finishes, Untouched};
 ghost use Rattle.controller.specs.Telling.{meaning};
 ghost use Rattle.cascade.specs.Fit.{Makes};
 ghost use Rattle.cascade.specs.Parts.{part_of, shifted, is_atop};
 ghost use Rattle.cascade.specs.Told.{meant, Sound, Unmoved};
-ghost use Rattle.std.proofs.Common.{⊎_elim};
-ghost use Rattle.std.proofs.lemmas.Bool.{cases_Bool};
-ghost use Rattle.cascade.specs.Laws.{pile-lawful, void-lawful};
-ghost use Rattle.cascade.specs.Goes.{asked, asked-void};
+ghost use Rattle.cascade.specs.Goes.{told-lawful};
 
 use crate::fit::check;
 use crate::inside;
@@ -87,16 +84,10 @@ impl<O: Controller, I: Controller> Controller for Cascade<O, I> {
 
     ghost sound = { Sound O.Controller I.Controller };
 
-    ghost lawful = { λ p sound.
-        let O' = O.Controller in
-        let I' = I.Controller in
-        ⊎_elim
-        (λ fit.
-        let q = sound fit in
-        asked O' I' p (λ m. Lawful m) fit
-        (pile-lawful (meaning O' p.outer) p.k (meaning I' p.inner) (O.Controller.lawful p.outer q.outer) (I.Controller.lawful p.inner q.inner) q.tied.hanging))
-        (λ unfit. asked-void O' I' p (λ m. Lawful m) unfit void-lawful)
-        (cases_Bool p.fit) };
+    ghost lawful = { told-lawful {S = O} {T = I}
+        (record { widths = O.Controller.widths; spans = O.Controller.spans; lines = O.Controller.lines; classes = O.Controller.classes; fleets = O.Controller.fleets; ranks = O.Controller.ranks; opened = O.Controller.opened; highs = O.Controller.highs; waits = O.Controller.waits; stack = O.Controller.stack; sound = O.Controller.sound })
+        (record { widths = I.Controller.widths; spans = I.Controller.spans; lines = I.Controller.lines; classes = I.Controller.classes; fleets = I.Controller.fleets; ranks = I.Controller.ranks; opened = I.Controller.opened; highs = I.Controller.highs; waits = I.Controller.waits; stack = I.Controller.stack; sound = I.Controller.sound })
+        O.Controller.lawful I.Controller.lawful };
 
     // Wrapping: of parts that fit neither the sum of the widths nor the product of the spans overflows.
     fn width(&self) -> u16 {

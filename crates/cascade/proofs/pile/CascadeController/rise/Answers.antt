@@ -1,8 +1,9 @@
-use Rattle.std.proofs.Common.{refl, rules}
+use Rattle.std.proofs.Common.{Err, refl, rules}
+use Rattle.controller.specs.declared.refusal.Refusal.TheVariants.{NotALine}
 use Rattle.controller.specs.Rules.{Rises, otherwise}
 use Rattle.controller.proofs.Refused.{rises-same}
 use Rattle.cascade.proofs.Calls.{rises-outer, rises-inner}
-use Rattle.cascade.specs.Goes.{unmoved-outer, unmoved-both}
+use Rattle.cascade.specs.Goes.{went, unmoved-outer, unmoved-both, unmoved-parts}
 use Rattle.cascade.proofs.Passing.{Refuses, call-neither, call-outer, call-inner}
 use Rattle.cascade.proofs.pile.CascadeController.rise.Goals as goal
 
@@ -12,12 +13,14 @@ refuses m n e = otherwise e (refl, refl)
 pub returns-in-Neither : goal.returns-in-Neither
 returns-in-Neither g c = record {
   rule = λ sound. call-neither g.O.Controller g.I.Controller g.met.O.Controller.lawful g.met.I.Controller.lawful c.args.self.now sound c.args.n Rises refuses (c.in-Neither.ensures sound);
+  parts = unmoved-parts g.O.Controller g.I.Controller c.args.self.now (Err NotALine) c.args.self.now refl;
   refused = refl;
 }
 
 pub returns-in-Outer : goal.returns-in-Outer
 returns-in-Outer g c = record {
   rule = λ sound. call-outer g.O.Controller g.I.Controller g.met.O.Controller.lawful g.met.I.Controller.lawful c.args.self.now sound c.args.n Rises rises-outer (c.in-Outer.ensures sound) c.rise.result c.rise.new.self c.rise.ensures.rule;
+  parts = unmoved-parts g.O.Controller g.I.Controller c.args.self.now c.rise.result (went g.O.Controller g.I.Controller c.args.self.now c.rise.new.self c.args.self.now.inner) (unmoved-outer g.O.Controller g.I.Controller c.args.self.now c.rise.result c.rise.new.self c.rise.ensures.refused);
   refused = unmoved-outer g.O.Controller g.I.Controller c.args.self.now c.rise.result c.rise.new.self c.rise.ensures.refused;
 }
 
@@ -26,5 +29,6 @@ returns-in-Inner g c =
     let call = c.rise-in-Inner in
     record {
       rule = λ sound. call-inner g.O.Controller g.I.Controller g.met.O.Controller.lawful g.met.I.Controller.lawful c.args.self.now sound c.args.n Rises rises-inner rises-same c.in-Inner.m (c.in-Inner.ensures sound) call.result call.new.outer call.new.inner call.ensures.goes;
+      parts = unmoved-parts g.O.Controller g.I.Controller c.args.self.now call.result (went g.O.Controller g.I.Controller c.args.self.now call.new.outer call.new.inner) (unmoved-both g.O.Controller g.I.Controller c.args.self.now call.result call.new.outer call.new.inner call.ensures.outer call.ensures.inner);
       refused = unmoved-both g.O.Controller g.I.Controller c.args.self.now call.result call.new.outer call.new.inner call.ensures.outer call.ensures.inner;
     }

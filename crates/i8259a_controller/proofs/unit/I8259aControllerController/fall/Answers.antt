@@ -12,10 +12,10 @@ returns c =
     let same : c.shows-serving.new.self ≡ chip = c.shows-serving.ensures.after ∙ c.shows-high.ensures.after in
     let is : c.fall.new.self ≡ fallen chip n = c.fall.ensures.after ∙ ap (λ (z : I8259a). fallen z n) same in
     record {
-      rule = λ sound. falls chip n sound (line_of n (sym c.fall.ensures.answer ∙ c.in-ok-fall.was)) c.fall.new.self c.shows-high.result c.shows-serving.result c.fall-answer.result
+      rule = λ sound. falls chip n sound (line_of n (sym c.fall.ensures.answer ∙ c.in_ok-fall.was)) c.fall.new.self c.shows-high.result c.shows-serving.result c.fall_answer.result
           is c.shows-high.ensures.answer
           (c.shows-serving.ensures.answer ∙ ap (λ (z : I8259a). shows z Isr n) c.shows-high.ensures.after)
-          c.fall-answer.ensures;
+          c.fall_answer.ensures;
       refused = tt;
       chip = is;
     }

@@ -15,21 +15,21 @@ pub returns : goal.returns
 returns c =
     let chip = c.args.self.now.chip in
     let n = c.args.n in
-    let top : is_atop (lowest chip.isr) n ≡ true = ap (λ o. is_atop o n) (sym c.newest-newest.ensures.answer) ∙ sym c.if-not-is-newest.ensures in
+    let top : is_atop (lowest chip.isr) n ≡ true = ap (λ o. is_atop o n) (sym c.newest-newest.ensures.answer) ∙ sym c.if-not-is_newest.ensures in
     let same : c.shows-high.new.self ≡ chip = c.shows-high.ensures.after ∙ c.newest-newest.ensures.after in
     let is = moved (λ z. with_isr z (without z.isr n)) c.shows-high.new.self chip c.end.new.chip same c.end.ensures in
     let high : c.shows-high.result ≡ has chip.irr n = c.shows-high.ensures.answer ∙ ap (λ (z : I8259a). shows z Irr n) c.newest-newest.ensures.after in
     record {
-      rule = λ sound. finishes chip n sound (omega arith) c.end.new.chip c.shows-high.result c.finish-answer.result top (is sound.set_up) high c.finish-answer.ensures;
+      rule = λ sound. finishes chip n sound (omega arith) c.end.new.chip c.shows-high.result c.finish_answer.result top (is sound.set_up) high c.finish_answer.ensures;
       refused = tt;
       chip = λ sound. is sound.set_up ∙ sym (cond-true _ _ _ (and_from _ _ (lt-ltb n 8 (omega arith)) top));
     }
 
-pub returns-then-not-is-newest : goal.returns-then-not-is-newest
-returns-then-not-is-newest c =
+pub returns-then-not-is_newest : goal.returns-then-not-is_newest
+returns-then-not-is_newest c =
     let chip = c.args.self.now.chip in
     let n = c.args.n in
-    let low : is_atop (lowest chip.isr) n ≡ false = ap (λ o. is_atop o n) (sym c.newest-newest.ensures.answer) ∙ sym c.if-not-is-newest.ensures in
+    let low : is_atop (lowest chip.isr) n ≡ false = ap (λ o. is_atop o n) (sym c.newest-newest.ensures.answer) ∙ sym c.if-not-is_newest.ensures in
     let same = c.newest-newest.ensures.after in
     record {
       rule = λ sound. unmoved chip c.newest-newest.new.chip (Finishes (meant chip) n (Err NotNewest)) same sound (finish-refused chip n sound (omega arith) low);

@@ -12,10 +12,10 @@ returns c =
     let same : c.shows-serving.new.self ≡ chip = c.shows-serving.ensures.after ∙ c.shows-high.ensures.after in
     let is : c.rise.new.self ≡ risen chip n = c.rise.ensures.after ∙ ap (λ (z : I8259a). risen z n) same in
     record {
-      rule = λ sound. rises chip n sound (line_of n (sym c.rise.ensures.answer ∙ c.in-ok-rise.was)) c.rise.new.self c.shows-high.result c.shows-serving.result c.rise-answer.result
+      rule = λ sound. rises chip n sound (line_of n (sym c.rise.ensures.answer ∙ c.in_ok-rise.was)) c.rise.new.self c.shows-high.result c.shows-serving.result c.rise_answer.result
           is c.shows-high.ensures.answer
           (c.shows-serving.ensures.answer ∙ ap (λ (z : I8259a). shows z Isr n) c.shows-high.ensures.after)
-          c.rise-answer.ensures;
+          c.rise_answer.ensures;
       refused = tt;
       chip = is;
     }

@@ -9,8 +9,8 @@ loop-n-init c = subst (Partly c.args.priorities 1) (sym c.new-chip.ensures.value
 
 pub loop-n-preserved : goal.loop-n-preserved
 loop-n-preserved c =
-    let set : SetsPriority c.loop-n.chip c.loop-n.n (get_or c.args.priorities c.loop-n.n 0) c.set-priority.new.chip = search rules in
-    one_more c.args.priorities c.loop-n.chip c.set-priority.new.chip c.loop-n.n (omega arith) (omega arith) c.loop-n.invariant set
+    let set : SetsPriority c.loop-n.chip c.loop-n.n (get_or c.args.priorities c.loop-n.n 0) c.set_priority.new.chip = search rules in
+    one_more c.args.priorities c.loop-n.chip c.set_priority.new.chip c.loop-n.n (omega arith) (omega arith) c.loop-n.invariant set
 
 pub returns : goal.returns
 returns c =

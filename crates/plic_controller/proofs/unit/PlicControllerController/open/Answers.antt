@@ -6,7 +6,7 @@ use Rattle.plic_controller.proofs.unit.PlicControllerController.open.Goals as go
 pub returns : goal.returns
 returns c =
     let p = c.args.self.now.chip in
-    let q = c.set-enabled.new.chip in
+    let q = c.set_enabled.new.chip in
     let x = c.gateway-gateway.result in
     let seen = c.gateway-gateway.ensures in
     let ne = c.if-gateway-eq0.false in
