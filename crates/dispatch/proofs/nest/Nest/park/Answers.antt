@@ -7,7 +7,7 @@ use Rattle.dispatch.proofs.nest.Nest.park.Goals as goal
 
 pub loop-i-preserved : goal.loop-i-preserved
 loop-i-preserved c =
-    let p = park-more c.args.line c.loop-i.self.entries c.args.self.now.entries c.loop-i.i c.parked_entry.result (omega arith) c.parked_entry.ensures c.loop-i.invariant.1 c.loop-i.invariant.2 in
+    let p = park-more c.args.line c.loop-i.self.entries c.args.self.now.entries c.loop-i.i c.parked-entry.result (omega arith) c.parked-entry.ensures c.loop-i.invariant.1 c.loop-i.invariant.2 in
     (c.loop-i.invariant.0, p.0, p.1)
 
 pub returns : goal.returns
