@@ -1,4 +1,6 @@
 // The arbitration tree: which of many leaves holds the key that comes first. Both chips find their winner with it.
+#![tactic(auto)]
+
 mod key;
 mod tree;
 

@@ -1,5 +1,7 @@
 // The worked cases, and many more like them, run on the chips, the controllers, the dispatcher and the reader: a line for
 // each, with what came back.
+#![tactic(auto)]
+
 mod claims;
 mod completions;
 mod ends;

@@ -124,17 +124,22 @@ fn check_write(
 ) -> Result<(), Fail> {
     let mut chip = before;
     let answer = done(chip.write(port, byte));
-    assert_eq!(rt; answer, expected(step, port, byte)?);
-    assert!(rt; answer == Answer::Done || chip == before);
+    assert_eq!(rt;
+        answer,
+        expected(step, port, byte)?,
+        "{step:?}, port {port}, byte {byte}"
+    );
+    assert!(rt;
+        answer == Answer::Done || chip == before,
+        "{step:?}, port {port}, byte {byte}"
+    );
     Ok(())
 }
 
 fn check_port(rt: &impl Abort, step: Step, port: u8) -> Result<(), Fail> {
     let chip = busy(step)?;
     for byte in 0..=u8::MAX {
-        check_write(rt, chip, step, port, byte).note(format_args!(
-            "{step:?}, port {port}, byte {byte}"
-        ))?;
+        check_write(rt, chip, step, port, byte)?;
     }
     Ok(())
 }

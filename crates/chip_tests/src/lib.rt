@@ -1,4 +1,6 @@
 // The worked behaviour of the refusals, the arbitration tree and both bare chips, as tables that the tests run.
+#![tactic(auto)]
+
 #[cfg(test)]
 mod answer;
 #[cfg(test)]

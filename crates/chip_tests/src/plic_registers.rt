@@ -56,16 +56,15 @@ const PLACES: [Place; 36] = [
     Place(0xffff_ffff, false),
 ];
 
-fn check_place(rt: &impl Abort, chip: &mut Plic<64>, place: &Place) -> Result<(), Fail> {
+fn check_place(rt: &impl Abort, chip: &mut Plic<64>, place: &Place) {
     let Place(offset, exists) = place;
     let (read, written) = if *exists {
         (Answer::Value(0), Answer::Done)
     } else {
         (NO_SUCH_ADDRESS, NO_SUCH_ADDRESS)
     };
-    assert_eq!(rt; word(chip.read(*offset)), read);
-    assert_eq!(rt; done(chip.write(*offset, 0)), written);
-    Ok(())
+    assert_eq!(rt; word(chip.read(*offset)), read, "offset {offset}");
+    assert_eq!(rt; done(chip.write(*offset, 0)), written, "offset {offset}");
 }
 
 // How many offsets from 0 on, up to past the last register, can be read.
@@ -81,14 +80,13 @@ fn readable<const N: usize>(chip: &mut Plic<N>) -> u32 {
 
 // Each table of bits has a word for 32 numbers, and there are two more registers.
 #[test]
-fn offsets_exist_as_listed(rt: HostRuntime) -> Result<(), Fail> {
+fn offsets_exist_as_listed(rt: HostRuntime) {
     let mut chip = Plic::<64>::new();
     for place in PLACES.iter() {
-        check_place(&rt, &mut chip, place).note(format_args!("offset {}", place.0))?;
+        check_place(&rt, &mut chip, place);
     }
     assert_eq!(rt; readable(&mut chip), 64 + 2 + 2 + 2);
     assert_eq!(rt; readable(&mut Plic::<1024>::new()), 1024 + 32 + 32 + 2);
-    Ok(())
 }
 
 // An offset, a value that is written there, and what is read then.
@@ -123,8 +121,16 @@ const KEPT: [Kept; 18] = [
 fn check_kept(rt: &impl Abort, chip: &mut Plic<64>, kept: &Kept) -> Result<(), Fail> {
     let Kept(offset, written, read) = kept;
     chip.write(*offset, *written)?;
-    assert_eq!(rt; word(chip.read(*offset)), Answer::Value(*read));
-    assert_eq!(rt; word(chip.read(*offset)), Answer::Value(*read));
+    assert_eq!(rt;
+        word(chip.read(*offset)),
+        Answer::Value(*read),
+        "{written} at offset {offset}"
+    );
+    assert_eq!(rt;
+        word(chip.read(*offset)),
+        Answer::Value(*read),
+        "{written} at offset {offset}"
+    );
     Ok(())
 }
 
@@ -134,7 +140,7 @@ fn registers_keep_what_they_have_room_for(rt: HostRuntime) -> Result<(), Fail> {
     chip.rise(9)?;
     chip.rise(63)?;
     for kept in KEPT.iter() {
-        check_kept(&rt, &mut chip, kept).note(format_args!("{} at offset {}", kept.1, kept.0))?;
+        check_kept(&rt, &mut chip, kept)?;
     }
     Ok(())
 }
@@ -155,11 +161,19 @@ fn write_priorities(chip: &mut Plic<64>, priority: u32) -> Result<(), Fail> {
     Ok(())
 }
 
-fn check_only_claim(rt: &impl Abort, chip: &mut Plic<64>, source: u32) {
-    assert!(rt; chip.signal());
-    assert_eq!(rt; word(chip.read(CLAIM_COMPLETE)), Answer::Value(source));
-    assert!(rt; !chip.signal());
-    assert_eq!(rt; word(chip.read(CLAIM_COMPLETE)), Answer::Value(0));
+fn check_only_claim(rt: &impl Abort, chip: &mut Plic<64>, source: u32, what: &str) {
+    assert!(rt; chip.signal(), "{what} of {source}");
+    assert_eq!(rt;
+        word(chip.read(CLAIM_COMPLETE)),
+        Answer::Value(source),
+        "{what} of {source}"
+    );
+    assert!(rt; !chip.signal(), "{what} of {source}");
+    assert_eq!(rt;
+        word(chip.read(CLAIM_COMPLETE)),
+        Answer::Value(0),
+        "{what} of {source}"
+    );
 }
 
 // All are enabled, and one has a priority.
@@ -169,7 +183,7 @@ fn check_priority(rt: &impl Abort, source: u8) -> Result<(), Fail> {
     chip.write(ENABLE, ALL)?;
     chip.write(ENABLE + 4, ALL)?;
     chip.write(4 * source, 1)?;
-    check_only_claim(rt, &mut chip, source);
+    check_only_claim(rt, &mut chip, source, "priority");
     Ok(())
 }
 
@@ -179,15 +193,15 @@ fn check_enable(rt: &impl Abort, source: u8) -> Result<(), Fail> {
     let mut chip = all_high()?;
     write_priorities(&mut chip, 7)?;
     chip.write(ENABLE + 4 * (source / 32), 1 << (source % 32))?;
-    check_only_claim(rt, &mut chip, source);
+    check_only_claim(rt, &mut chip, source, "enable bit");
     Ok(())
 }
 
 #[test]
 fn every_source_has_its_own_priority_and_enable_bit(rt: HostRuntime) -> Result<(), Fail> {
     for source in 1..64 {
-        check_priority(&rt, source).note(format_args!("priority of {source}"))?;
-        check_enable(&rt, source).note(format_args!("enable bit of {source}"))?;
+        check_priority(&rt, source)?;
+        check_enable(&rt, source)?;
     }
     Ok(())
 }

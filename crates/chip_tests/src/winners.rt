@@ -110,18 +110,25 @@ fn check_filling(
 ) -> Result<(), Fail> {
     let leaves = leaves(heap, size, filling)?;
     let levels = levels(heap, &leaves)?;
-    assert_eq!(rt; winner(&levels), scan(&leaves, Order::SmallerFirst));
+    assert_eq!(rt;
+        winner(&levels),
+        scan(&leaves, Order::SmallerFirst),
+        "{size} leaves from {}",
+        filling.0
+    );
     let priorities = priorities(heap, &leaves)?;
-    assert_eq!(rt; winner(&priorities), scan(&leaves, Order::GreaterFirst));
+    assert_eq!(rt;
+        winner(&priorities),
+        scan(&leaves, Order::GreaterFirst),
+        "{size} leaves from {}",
+        filling.0
+    );
     Ok(())
 }
 
 fn check_size(rt: &impl Abort, heap: Global, size: usize) -> Result<(), Fail> {
     for filling in FILLINGS.iter() {
-        check_filling(rt, heap, size, filling).note(format_args!(
-            "{size} leaves from {}",
-            filling.0
-        ))?;
+        check_filling(rt, heap, size, filling)?;
     }
     Ok(())
 }

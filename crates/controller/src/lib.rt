@@ -1,4 +1,6 @@
 // What every interrupt controller tells, what its calls answer and leave, and the refusals that all layers share.
+#![tactic(auto)]
+
 mod answer;
 mod refusal;
 mod telling;

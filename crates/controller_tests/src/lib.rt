@@ -1,4 +1,6 @@
 // The same list of calls over both controllers, with the answers that the rules give each.
+#![tactic(auto)]
+
 #[cfg(test)]
 mod outcome;
 #[cfg(test)]

@@ -1,4 +1,6 @@
 // The dispatcher: it starts the line that its controller takes, keeps the nest of what it started, and ends it in order.
+#![tactic(auto)]
+
 mod claim;
 mod dispatcher;
 mod nest;

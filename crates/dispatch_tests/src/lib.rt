@@ -1,4 +1,6 @@
 // The dispatcher as tests run it: claims in the hands of handlers, and random calls on every kind of unit.
+#![tactic(auto)]
+
 #[cfg(test)]
 mod balance;
 #[cfg(test)]

@@ -172,13 +172,14 @@ fn handle(
     }
 }
 
-// One call of line n, or a take; the dispatcher and the model say the same.
+// One call of line n, or a take, the call at that place; the dispatcher and the model say the same.
 fn call(
     rt: &impl Abort,
     dispatcher: &mut Dispatcher<I8259aController>,
     lines: &mut [Line; 8],
     choice: u8,
     n: usize,
+    place: usize,
 ) -> Result<(), Fail>
     requires { n < 8 }
 {
@@ -202,12 +203,12 @@ fn call(
         ),
         _ => (finished(dispatcher.finish(number)), finish(lines, n)),
     };
-    assert_eq!(rt; seen, expected);
+    assert_eq!(rt; seen, expected, "call {place}");
     count(&mut lines[n], seen);
     for line in lines.iter() {
-        assert!(rt; balanced(line));
+        assert!(rt; balanced(line), "call {place}");
     }
-    assert_eq!(rt; dispatcher.depth(), depth(lines));
+    assert_eq!(rt; dispatcher.depth(), depth(lines), "call {place}");
     Ok(())
 }
 
@@ -218,11 +219,11 @@ fn drained(
     lines: &mut [Line; 8],
 ) -> Result<(), Fail> {
     for n in 0..8 {
-        call(rt, dispatcher, lines, 4, n)?;
-        call(rt, dispatcher, lines, 6, n)?;
+        call(rt, dispatcher, lines, 4, n, CALLS)?;
+        call(rt, dispatcher, lines, 6, n, CALLS)?;
     }
     for n in 0..8 {
-        call(rt, dispatcher, lines, 13, n)?;
+        call(rt, dispatcher, lines, 13, n, CALLS)?;
     }
     assert_eq!(rt; take_and_park(dispatcher), Spurious(0));
     for line in lines.iter() {
@@ -246,8 +247,8 @@ fn random_calls_balance(rt: HostRuntime) -> Result<(), Fail> {
             &mut lines,
             choice % 16,
             usize::from(line % 8),
-        )
-        .note(place)?;
+            place,
+        )?;
     }
     drained(&rt, &mut dispatcher, &mut lines)
 }

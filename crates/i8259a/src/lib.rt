@@ -1,4 +1,6 @@
 // The bare Intel 8259A: its registers, its two ports, its signal and its acknowledge.
+#![tactic(auto)]
+
 mod bits;
 mod chip;
 mod driver;

@@ -1,4 +1,6 @@
 // The 8259A as a controller of eight fleeting lines.
+#![tactic(auto)]
+
 mod steps;
 mod unit;
 

@@ -1,5 +1,7 @@
 // The incident: a line falls between the signal and the acknowledge. Told through both chips, through the units as
 // controllers, and the whole way through a dispatcher above each.
+#![tactic(auto)]
+
 mod dispatched;
 mod new_chip;
 mod old_chip;

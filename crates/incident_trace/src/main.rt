@@ -1,5 +1,7 @@
 // The incident as a device trace: a line falls between the signal and the acknowledge. The trace is read from standard input,
 // shown record by record, and replayed on both kinds of unit.
+#![tactic(auto)]
+
 mod traced;
 
 use plic_controller::PlicController;

@@ -1,4 +1,6 @@
 // A trace replayed over a dispatcher, what it logs, and the line that is printed of a log record.
+#![tactic(auto)]
+
 mod act;
 mod log;
 mod perform;

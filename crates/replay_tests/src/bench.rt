@@ -98,27 +98,28 @@ pub(crate) fn on_old_unit(trace: &[u8], log: &mut [LogRecord]) -> Replayed {
     replay(&mut Dispatcher::new(old_unit()), trace, log)
 }
 
-// The answer is the row's, the log begins with that many records of the trace's, and nothing past them was touched.
+// The case `what` at `n`: the answer is the row's, the log begins with that many records of the trace's, and nothing past them was touched.
 pub(crate) fn check_row(
     rt: &impl Abort,
     replayed: Replayed,
     log: &[LogRecord],
     row: Row,
-) -> Result<(), Fail> {
-    assert_eq!(rt; replayed.records, row.records);
-    assert_eq!(rt; replayed.bytes, row.bytes);
+    what: &str,
+    n: usize,
+) {
+    assert_eq!(rt; replayed.records, row.records, "{what} {n}");
+    assert_eq!(rt; replayed.bytes, row.bytes, "{what} {n}");
     let fault = match replayed.fault {
         Some(refusal) => refusal.number(),
         None => 0,
     };
-    assert_eq!(rt; fault, row.fault);
+    assert_eq!(rt; fault, row.fault, "{what} {n}");
     for (i, record) in log.iter().enumerate() {
         let expected = if i < row.records && i < LOG.len() {
             LOG[i]
         } else {
             FILL
         };
-        assert_eq!(rt; *record, expected, "log record {i}");
+        assert_eq!(rt; *record, expected, "{what} {n}: log record {i}");
     }
-    Ok(())
 }

@@ -2,7 +2,6 @@
 use crate::bench::{FILL, PLACES, Row, TRACE, check_row, on_old_unit};
 use replay::LogRecord;
 use std::process::Abort;
-use std::test::Fail;
 
 // By the length of the log. The records ask for 1, 2, 1, 1, 1, 1, 1, 2, 1 and 2 free places.
 const LOG_LENGTHS: [Row; 9] = [
@@ -53,18 +52,17 @@ const LOG_LENGTHS: [Row; 9] = [
     },
 ];
 
-fn check_room(rt: &impl Abort, log: &mut [LogRecord], length: usize, row: Row) -> Result<(), Fail> {
+fn check_room(rt: &impl Abort, log: &mut [LogRecord], length: usize, row: Row) {
     assert!(rt; length <= log.len());
     let replayed = on_old_unit(&TRACE, &mut log[0..length]);
-    check_row(rt, replayed, log, row).note(format_args!("log of {length}"))
+    check_row(rt, replayed, log, row, "log of", length);
 }
 
 #[test]
-fn logs_of_every_length(rt: HostRuntime) -> Result<(), Fail> {
+fn logs_of_every_length(rt: HostRuntime) {
     for (length, row) in LOG_LENGTHS.iter().enumerate() {
-        check_room(&rt, &mut [FILL; 8], length, *row)?;
+        check_room(&rt, &mut [FILL; 8], length, *row);
     }
-    Ok(())
 }
 
 // The last place that a trace of this many bytes reaches whole; a record that is cut there is the fault.
@@ -82,16 +80,15 @@ fn stop_of(length: usize) -> Row {
 }
 
 #[test]
-fn cuts_at_every_length(rt: HostRuntime) -> Result<(), Fail> {
+fn cuts_at_every_length(rt: HostRuntime) {
     for length in 0..TRACE.len() + 1 {
         let mut log = [FILL; 8];
         let replayed = on_old_unit(&TRACE[0..length], &mut log);
-        check_row(&rt, replayed, &log, stop_of(length)).note(format_args!("cut to {length}"))?;
+        check_row(&rt, replayed, &log, stop_of(length), "cut to", length);
     }
-    Ok(())
 }
 
-fn check_bad_map(rt: &impl Abort, place: Row, map: u8) -> Result<(), Fail> {
+fn check_bad_map(rt: &impl Abort, place: Row, map: u8) {
     let mut trace = TRACE;
     assert!(rt; place.bytes < trace.len());
     trace[place.bytes] = map;
@@ -102,17 +99,16 @@ fn check_bad_map(rt: &impl Abort, place: Row, map: u8) -> Result<(), Fail> {
         bytes: place.bytes,
         fault: 6,
     };
-    check_row(rt, replayed, &log, row).note(format_args!("map {map}"))
+    check_row(rt, replayed, &log, row, "map", usize::from(map));
 }
 
 #[test]
-fn bad_maps_in_every_place(rt: HostRuntime) -> Result<(), Fail> {
+fn bad_maps_in_every_place(rt: HostRuntime) {
     for place in PLACES {
         if place.bytes < TRACE.len() {
             for map in [0x00, 0x40, 0x80, 0xff] {
-                check_bad_map(&rt, place, map)?;
+                check_bad_map(&rt, place, map);
             }
         }
     }
-    Ok(())
 }

@@ -1,4 +1,6 @@
 // Replays on the old unit: logs of every length, traces cut anywhere, bad maps, refused acts, printed lines.
+#![tactic(auto)]
+
 #[cfg(test)]
 mod bench;
 #[cfg(test)]

@@ -1,4 +1,6 @@
 // What a dispatcher's calls do, and the law of service that follows over every list of calls.
+#![tactic(auto)]
+
 mod entry;
 mod law;
 

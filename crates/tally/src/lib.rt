@@ -1,4 +1,6 @@
 // The balance of one line: how often it was accepted, was withdrawn and has ended, counted from what was answered of it.
+#![tactic(auto)]
+
 ghost use Rattle.std.specs.Prelude.{◌≡◌, ◌+◌, ◌-◌};
 ghost use Rattle.service.specs.Calls.{passed_on};
 ghost use Rattle.dispatch.specs.Replies.{finished_reply};

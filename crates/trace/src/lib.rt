@@ -1,4 +1,6 @@
 // Traces: records of the acts on a controller, read, decoded, written and surveyed, with no allocation.
+#![tactic(auto)]
+
 mod acts;
 mod length;
 mod map;

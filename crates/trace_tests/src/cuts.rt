@@ -64,8 +64,14 @@ fn check_stays(
     Ok(())
 }
 
-fn check_trace(rt: &impl Abort, trace: &[u8], survey: Survey) -> Result<(), Fail> {
-    assert_eq!(rt; survey_trace(trace), survey);
+fn check_trace(
+    rt: &impl Abort,
+    trace: &[u8],
+    survey: Survey,
+    what: &str,
+    place: usize,
+) -> Result<(), Fail> {
+    assert_eq!(rt; survey_trace(trace), survey, "{what} {place}");
     let mut reader = Reader::new(trace);
     check_records(rt, &mut reader, survey)?;
     check_stays(
@@ -85,7 +91,7 @@ fn a_trace_is_cut_at_every_length(rt: HostRuntime) -> Result<(), Fail> {
         } else {
             survey_of(length, Some(Refusal::CutRecord))
         };
-        check_trace(&rt, &TRACE[0..length], survey).note(length)?;
+        check_trace(&rt, &TRACE[0..length], survey, "cut at", length)?;
     }
     Ok(())
 }
@@ -102,14 +108,14 @@ fn check_spoilt(rt: &impl Abort, place: usize, byte: u8) -> Result<(), Fail> {
     } else {
         survey_of(16, None)
     };
-    check_trace(rt, &trace, survey)
+    check_trace(rt, &trace, survey, "spoilt at", place)
 }
 
 #[test]
 fn an_unlawful_map_is_found_at_every_place(rt: HostRuntime) -> Result<(), Fail> {
     for place in 0..16 {
         for byte in UNLAWFUL.iter() {
-            check_spoilt(&rt, place, *byte).note(format_args!("{byte} at {place}"))?;
+            check_spoilt(&rt, place, *byte)?;
         }
     }
     Ok(())

@@ -1,4 +1,6 @@
 // The format of traces, as rules and tables that the tests hold the crate against.
+#![tactic(auto)]
+
 #[cfg(test)]
 mod cuts;
 #[cfg(test)]

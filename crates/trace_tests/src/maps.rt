@@ -8,7 +8,7 @@ use trace::{Next, Reader, Record, act_count, record_length, write_acts, write_re
 // The buffer holds the record of a map, and nothing past it was touched.
 fn check_bytes(rt: &impl Abort, buffer: &[u8], map: u8) {
     for (place, byte) in buffer.iter().enumerate() {
-        assert_eq!(rt; *byte, byte_at(map, place), "byte {place}");
+        assert_eq!(rt; *byte, byte_at(map, place), "map {map}: byte {place}");
     }
 }
 
@@ -18,47 +18,55 @@ fn check_named(rt: &impl Abort, record: &Record, map: u8) {
         assert_eq!(rt;
             record.acts().at(i as u8).is_some(),
             map & *bit != 0,
-            "bit {i}"
+            "map {map}: bit {i}"
         );
     }
-    assert_eq!(rt; act_count(map), set_bits(map, &BITS));
+    assert_eq!(rt; act_count(map), set_bits(map, &BITS), "map {map}");
 }
 
 // The acts are those of the format, and written they give the record again.
 fn check_acts(rt: &impl Abort, record: &Record, map: u8) {
-    assert_eq!(rt; record.map(), map);
+    assert_eq!(rt; record.map(), map, "map {map}");
     check_named(rt, record, map);
     let acts = record.acts();
-    assert_eq!(rt; acts, acts_of(map));
+    assert_eq!(rt; acts, acts_of(map), "map {map}");
     let mut buffer = [FILL; 6];
-    assert_eq!(rt; write_acts(&acts, &mut buffer), Ok(length(map)));
+    assert_eq!(rt;
+        write_acts(&acts, &mut buffer),
+        Ok(length(map)),
+        "map {map}"
+    );
     check_bytes(rt, &buffer, map);
 }
 
 // The record is written and read; the byte that follows it is no map, and the reader stays there.
 fn check_lawful(rt: &impl Abort, map: u8) -> Result<(), Fail> {
-    assert_eq!(rt; record_length(map), Some(length(map)));
+    assert_eq!(rt; record_length(map), Some(length(map)), "map {map}");
     let mut buffer = [FILL; 6];
-    assert_eq!(rt; write_record(map, &LINES, &mut buffer), Ok(length(map)));
+    assert_eq!(rt;
+        write_record(map, &LINES, &mut buffer),
+        Ok(length(map)),
+        "map {map}"
+    );
     check_bytes(rt, &buffer, map);
     let mut reader = Reader::new(&buffer);
     let Next::Record(record) = reader.next_record() else {
         return Err(Fail::new("no record"));
     };
-    assert_eq!(rt; record.place, 0);
-    assert_eq!(rt; record.bytes.len(), length(map));
+    assert_eq!(rt; record.place, 0, "map {map}");
+    assert_eq!(rt; record.bytes.len(), length(map), "map {map}");
     check_acts(rt, &record, map);
     let Next::UnlawfulMap(rest) = reader.next_record() else {
         return Err(Fail::new("no fault after the record"));
     };
-    assert_eq!(rt; rest.len().saturating_add(length(map)), 6);
-    assert_eq!(rt; reader.place(), length(map));
+    assert_eq!(rt; rest.len().saturating_add(length(map)), 6, "map {map}");
+    assert_eq!(rt; reader.place(), length(map), "map {map}");
     Ok(())
 }
 
 // An unlawful map is refused by the reader, which stays, and by the writer, which touches nothing.
 fn check_unlawful(rt: &impl Abort, map: u8) -> Result<(), Fail> {
-    assert_eq!(rt; record_length(map), None);
+    assert_eq!(rt; record_length(map), None, "map {map}");
     let mut buffer = [FILL; 6];
     assert_eq!(rt;
         write_record(map, &LINES, &mut buffer),
@@ -70,8 +78,8 @@ fn check_unlawful(rt: &impl Abort, map: u8) -> Result<(), Fail> {
     let Next::UnlawfulMap(rest) = reader.next_record() else {
         return Err(Fail::new("no fault"));
     };
-    assert_eq!(rt; rest.len(), 3);
-    assert_eq!(rt; reader.place(), 0);
+    assert_eq!(rt; rest.len(), 3, "map {map}");
+    assert_eq!(rt; reader.place(), 0, "map {map}");
     Ok(())
 }
 
@@ -79,9 +87,9 @@ fn check_unlawful(rt: &impl Abort, map: u8) -> Result<(), Fail> {
 fn every_map_is_written_and_read(rt: HostRuntime) -> Result<(), Fail> {
     for map in 0..=255u8 {
         if lawful(map) {
-            check_lawful(&rt, map).note(map)?;
+            check_lawful(&rt, map)?;
         } else {
-            check_unlawful(&rt, map).note(map)?;
+            check_unlawful(&rt, map)?;
         }
     }
     Ok(())
