@@ -1,5 +1,5 @@
 -- The better of two halves is the best of the whole.
-use Rattle.std.proofs.Common.{◌≡◌, ℕ, ◌<◌, ◌≤◌, Bool, true, false, ◌⊎◌, List, Some, None, Option, ⊎_elim, arith}
+use Rattle.std.proofs.Common.{◌≡◌, ℕ, ◌≤◌, Bool, true, ◌⊎◌, List, Some, None, Option, ⊎_elim, arith}
 use Rattle.std.proofs.lemmas.Bool.{cases_lt, cases_Bool, cond_both, both_ways}
 use Rattle.arbiter.specs.declared.tree.Entrant.{Entrant}
 use Rattle.arbiter.specs.Matches.{played, Best}

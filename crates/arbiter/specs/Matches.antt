@@ -1,5 +1,5 @@
 -- The inside of the tree: one match, and what the leaves of one part of it give.
-use Rattle.std.specs.Prelude.{◌≡◌, ℕ, ◌<◌, ◌≤◌, Bool, true, false, cond, List, length, get_or, Some, None, Option}
+use Rattle.std.specs.Prelude.{◌≡◌, ℕ, ◌<◌, ◌≤◌, Bool, true, false, cond, List, Some, None, Option}
 use Rattle.arbiter.specs.declared.tree.Entrant.{Entrant}
 use Rattle.arbiter.specs.Winning.{Holds}
 

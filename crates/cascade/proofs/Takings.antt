@@ -6,7 +6,7 @@ use Rattle.controller.specs.declared.refusal.Refusal.TheVariants.{NotNewest}
 use Rattle.controller.specs.declared.answer.Answer.{Answer}
 use Rattle.controller.specs.declared.answer.Answer.TheVariants.{Accepted, Noted}
 use Rattle.controller.specs.Meaning.{State, Meaning, Lawful, among}
-use Rattle.controller.specs.Rules.{Signals, Takes, Finishes, Gives, so, otherwise, marked, onward, taken, finished, older, tops, newest, is_newest}
+use Rattle.controller.specs.Rules.{Signals, Takes, Finishes, Gives, so, otherwise, marked, onward, finished, older, tops, newest, is_newest}
 use Rattle.cascade.specs.Pile.{pile, marks, instead, renamed, replaced}
 use Rattle.cascade.specs.Tie.{Paired, Hanging, Tied, Tells}
 use Rattle.cascade.specs.Sides.{line-outer, line-inner, mark-k, mark-set-outer, mark-set-inner}

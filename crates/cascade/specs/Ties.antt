@@ -1,14 +1,13 @@
 -- What keeps the tie between the parts, and what toldOf k does.
-use Rattle.std.specs.Prelude.{◌≡◌, ℕ, ◌<◌, Bool, true, false, not, ◌&&◌, ◌||◌, List, [], ◌∷◌, refl}
+use Rattle.std.specs.Prelude.{◌≡◌, ℕ, ◌<◌, Bool, true, false, List, [], ◌∷◌, refl}
 use Rattle.std.proofs.Common.{sym, ap, subst, ◌∙◌}
-use Rattle.std.proofs.lemmas.Bool.{both_ways}
-use Rattle.controller.specs.Meaning.{Fixed, State, Meaning, Lawful, among, in_service}
-use Rattle.controller.specs.Rules.{Signals, marked, onward, risen, fallen}
+use Rattle.controller.specs.Meaning.{Fixed, State, Meaning, among}
+use Rattle.controller.specs.Rules.{Signals, onward, risen, fallen}
 use Rattle.cascade.specs.Pile.{pile, marks, replaced}
 use Rattle.cascade.specs.Tie.{Paired, Hanging, Tied, Told, Tells}
 use Rattle.controller.proofs.Asking.{asks-yes}
 use Rattle.cascade.specs.Sides.{mark-k}
-use Rattle.controller.proofs.Marks.{marked-same, marked-here, state-same}
+use Rattle.controller.proofs.Marks.{marked-here, state-same}
 
 pub paired_same : (k : ℕ) (ins outs outs' : List ℕ) → among k outs' ≡ among k outs → Paired k outs ins → Paired k outs' ins
 paired_same k [] outs outs' e h = e ∙ h

@@ -1,10 +1,10 @@
 -- Each state that a call leaves is lawful if the state before was.
-use Rattle.std.proofs.Common.{◌≡◌, ℕ, Bool, true, false, cond, not, ◌&&◌, ◌||◌, eqb, ◌≢◌, List, [], ◌∷◌, sym, refl, ap, ◌∙◌, subst, ⊎_elim}
-use Rattle.std.proofs.lemmas.Bool.{cases_eq, or_cases, or_parts, or_left, or_right, both_ways, eqb-true, eq-eqb, ne_eqb, false≢true, true≢false, cond-true, cond-false}
-use Rattle.controller.specs.Meaning.{Fixed, State, Meaning, StateLaws, Ready, Climbs, in_service, among}
-use Rattle.controller.specs.Rules.{marked, idle, risen, fallen, opening, taken, finished, older, tops}
+use Rattle.std.proofs.Common.{◌≡◌, ℕ, Bool, true, false, cond, not, ◌&&◌, ◌||◌, eqb, ◌≢◌, ◌∷◌, sym, refl, ap, ◌∙◌, subst, ⊎_elim}
+use Rattle.std.proofs.lemmas.Bool.{cases_eq, or_cases, or_parts, both_ways, eqb-true, eq-eqb, ne_eqb, false≢true, true≢false, cond-true, cond-false}
+use Rattle.controller.specs.Meaning.{Fixed, State, StateLaws, Ready, in_service, among}
+use Rattle.controller.specs.Rules.{marked, risen, fallen, opening, taken, finished, older, tops}
 use Rattle.controller.proofs.Marks.{marked-here, marked_other}
-use Rattle.controller.proofs.Stacks.{among-head, among-older, climbs-older}
+use Rattle.controller.proofs.Stacks.{among-older, climbs-older}
 
 -- A fact of the mark at j, from the fact at n and the fact elsewhere.
 at_mark : (P : Bool → Type 0) (f : ℕ → Bool) (n j : ℕ) (b : Bool) → (j ≡ n → P b) → (j ≢ n → P (f j)) → P (marked f n b j)

@@ -1,5 +1,5 @@
 -- Marks and states, compared part by part.
-use Rattle.std.proofs.Common.{◌≡◌, ℕ, Bool, cond, eqb, ◌≢◌, List, sym, refl, ap, ◌∙◌}
+use Rattle.std.proofs.Common.{◌≡◌, ℕ, Bool, eqb, ◌≢◌, List, sym, refl, ap, ◌∙◌}
 use mathlib.Core.Path.{fun_ext}
 use Rattle.std.proofs.lemmas.Bool.{eqb-true, eq-eqb, ne_eqb, cond_both, cond-true, cond-false, both_ways}
 use Rattle.controller.specs.Meaning.{State}

@@ -1,11 +1,9 @@
 -- The laws of the rules.
-use Rattle.std.proofs.Common.{◌≡◌, ℕ, Bool, true, false, cond, not, ◌&&◌, ◌||◌, eqb, ◌≢◌, ◌⊎◌, List, [], ◌∷◌, Some, None, Option, Result, sym, refl, ap, ◌∙◌, subst, inl, inr, ⊎_elim}
-use Rattle.std.proofs.lemmas.Bool.{cases_eq, both_ways, eqb-true, false≢true, true≢false}
-use Rattle.controller.specs.declared.refusal.Refusal.{Refusal}
-use Rattle.controller.specs.declared.answer.Answer.{Answer}
-use Rattle.controller.specs.Meaning.{State, Meaning, Lawful, StateLaws, in_service}
-use Rattle.controller.specs.Rules.{Asks, so, otherwise, Gives, Turns, marked, idle, risen, fallen, opening, taken, finished, onward, older, tops, Rises, Falls, Opens, Shuts, Takes, Finishes}
-use Rattle.controller.specs.Laws.{Called, rises, falls, opens, shuts, takes, finishes, Ran, none, more, Releases, Laws, RuleLaws}
+use Rattle.std.proofs.Common.{◌≡◌, ℕ, Bool, true, false, not, ◌&&◌, ◌||◌, ◌⊎◌, List, [], ◌∷◌, Some, None, sym, refl, ap, ◌∙◌, subst, inl, inr, ⊎_elim}
+use Rattle.std.proofs.lemmas.Bool.{cases_eq, both_ways, false≢true, true≢false}
+use Rattle.controller.specs.Meaning.{State, Meaning, Lawful, StateLaws}
+use Rattle.controller.specs.Rules.{so, otherwise, marked, idle, risen, fallen, opening, taken, finished, onward, older, tops}
+use Rattle.controller.specs.Laws.{Called, rises, falls, opens, shuts, takes, finishes, Ran, none, more, Releases, RuleLaws}
 use Rattle.controller.proofs.Marks.{marked-here, marked_other}
 use Rattle.controller.proofs.Stacks.{tops-among}
 use Rattle.controller.proofs.Keeping.{risen-lawful, fallen-lawful, opened-lawful, shut-lawful, taken-lawful, finished-lawful}

@@ -1,5 +1,5 @@
 -- The refusals: the number of each, the words it is printed in, and how a call asks its questions.
-use Rattle.std.specs.Prelude.{ℕ, Bool, true, false, List, Ok, Err, codes, Result}
+use Rattle.std.specs.Prelude.{ℕ, Bool, true, false, List, Err, codes, Result}
 use Rattle.controller.specs.declared.refusal.Refusal.{Refusal}
 use Rattle.controller.specs.declared.refusal.Refusal.TheVariants.{NotALine, InService, NotNewest, NotHeld, NotParked, UnlawfulMap, CutRecord, NoSpace, NotSetUp, NotModelled, NoSuchAddress, NotAFleetingLine, PartInService, TooLarge}
 

@@ -1,18 +1,16 @@
 -- The laws of a chip's calls.
-use Rattle.std.proofs.Common.{◌≡◌, ℕ, ◌/◌, ◌%◌, ◌<◌, ◌≤◌, Bool, true, false, cond, not, ◌&&◌, ◌||◌, eqb, ltb, ◌≢◌, ◌⊎◌, is_ok, Some, None, Ok, Err, Option, Result, sym, refl, ap, ◌∙◌, subst, inl, inr, ⊎_elim, arith}
+use Rattle.std.proofs.Common.{◌≡◌, ℕ, ◌%◌, ◌<◌, true, false, not, ◌&&◌, ◌||◌, eqb, ◌≢◌, is_ok, Some, None, Ok, Err, Option, Result, sym, refl, ap, ◌∙◌, subst, inl, inr, ⊎_elim, arith}
 use mathlib.Core.Bool.{and-true, or-false}
 use Rattle.std.proofs.lemmas.Bool.{cond-true, cond-false, cases_Bool, lt-ltb, eq-eqb, ne_eqb, both_ways, or_right, and_right}
 use Rattle.controller.specs.declared.refusal.Refusal.{Refusal}
-use Rattle.controller.specs.declared.refusal.Refusal.TheVariants.{NoSuchAddress, NotSetUp, NotModelled}
-use Rattle.controller.specs.Refusals.{asks}
 use Rattle.i8259a.specs.declared.chip.I8259a.{I8259a}
 use Rattle.i8259a.specs.declared.chip.Step.{Step}
 use Rattle.i8259a.specs.declared.chip.Step.TheVariants.{Icw1, Icw2, Icw3, Icw4, Done}
 use Rattle.i8259a.specs.Bits.{bit, with, without, without_if, lowest}
-use Rattle.i8259a.specs.Chip.{with_irr, with_isr, with_imr, risen, fallen, read_answer, is_set_up}
+use Rattle.i8259a.specs.Chip.{with_isr, risen, fallen, read_answer, is_set_up}
 use Rattle.i8259a.specs.Signal.{SetUp, InService, Urgent, NoneUrgent, First, Acknowledges, Names}
 use Rattle.i8259a.specs.Writing.{write_answer, write_after, written, icw1_modelled, ocw2_modelled, is_command, ready, ended, restarted}
-use Rattle.i8259a.specs.Laws.{Newest, Ends, Starts, Ocw2, after_four, Laws, ChipLaws}
+use Rattle.i8259a.specs.Laws.{Newest, Ends, Starts, Ocw2, after_four, ChipLaws}
 use Rattle.i8259a.proofs.Sets.{bit-with, bit-without}
 use Rattle.i8259a.proofs.LowestLevels.{Lowest, lowest-is, one-lowest}
 

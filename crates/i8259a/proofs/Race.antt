@@ -1,11 +1,11 @@
 -- The winner of the arbitration tree is the lowest level of the set, and the level ahead of all in service comes first.
-use Rattle.std.proofs.Common.{◌≡◌, ℕ, ◌<◌, ◌≤◌, Bool, true, false, cond, not, ◌&&◌, ltb, leb, ◌⊎◌, List, length, get_or, Some, None, Option, sym, refl, ap, ◌∙◌, inl, inr, ⊎_elim, arith}
+use Rattle.std.proofs.Common.{◌≡◌, ℕ, ◌<◌, ◌≤◌, Bool, true, false, not, ltb, leb, List, Some, None, Option, sym, refl, ap, ◌∙◌, ⊎_elim, arith}
 use Rattle.std.proofs.lemmas.Bool.{cond-true, cond-false, cases_Bool, cases_lt, cond_both, leb-true, ltb-true, ltb-false, and_parts, and_from, both_ways}
 use Rattle.arbiter.specs.Winning.{Holds, Winner}
 use Rattle.arbiter.specs.declared.key.Level.{Level}
 use Rattle.i8259a.specs.declared.chip.I8259a.{I8259a}
 use Rattle.i8259a.specs.Bits.{bit, Levels, outside, lowest}
-use Rattle.i8259a.specs.Signal.{Requests, InService, Urgent, First, Firsts, ahead}
+use Rattle.i8259a.specs.Signal.{Requests, InService, First, Firsts, ahead}
 use Rattle.i8259a.proofs.Sets.{bit-outside}
 use Rattle.i8259a.proofs.LowestLevels.{Lowest, lowest-is, one-lowest}
 

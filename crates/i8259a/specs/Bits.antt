@@ -1,5 +1,5 @@
 -- A byte as a set of the levels 0 to 7.
-use Rattle.std.specs.Prelude.{◌≡◌, ℕ, zero, suc, ◌-◌, ◌/◌, ◌%◌, ◌^◌, ◌<◌, Bool, true, false, cond, List, length, Some, None, Option, ◌==◌, bit_and, bit_or, slice_index_or}
+use Rattle.std.specs.Prelude.{◌≡◌, ℕ, zero, suc, ◌-◌, ◌/◌, ◌%◌, ◌^◌, ◌<◌, Bool, cond, List, length, Some, None, Option, ◌==◌, bit_and, bit_or, slice_index_or}
 use Rattle.arbiter.specs.declared.key.Level.{Level}
 
 -- Bit n of x is set: level n is in the set.

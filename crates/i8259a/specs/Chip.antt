@@ -1,5 +1,5 @@
 -- A chip's state, its lines and what its ports read as.
-use Rattle.std.specs.Prelude.{ℕ, Bool, true, false, cond, ◌&&◌, Ok, Err, Result, ◌==◌, nat_lt}
+use Rattle.std.specs.Prelude.{ℕ, Bool, true, false, cond, ◌&&◌, Ok, Result, ◌==◌, nat_lt}
 use Rattle.controller.specs.declared.refusal.Refusal.{Refusal}
 use Rattle.controller.specs.declared.refusal.Refusal.TheVariants.{NotALine, NoSuchAddress}
 use Rattle.controller.specs.Refusals.{asks}

@@ -3,7 +3,7 @@ use Rattle.std.specs.Prelude.{◌≡◌, ℕ, ◌/◌, ◌%◌, ◌<◌, ◌≤�
 use Rattle.controller.specs.declared.refusal.Refusal.{Refusal}
 use Rattle.i8259a.specs.declared.chip.I8259a.{I8259a}
 use Rattle.i8259a.specs.Bits.{bit}
-use Rattle.i8259a.specs.Chip.{with_irr, with_isr, risen, fallen, read_answer}
+use Rattle.i8259a.specs.Chip.{with_isr, risen, fallen, read_answer}
 use Rattle.i8259a.specs.Signal.{SetUp, InService, Urgent, NoneUrgent, First, Acknowledges}
 use Rattle.i8259a.specs.Writing.{write_answer, write_after, icw1_modelled, ready}
 

@@ -1,5 +1,5 @@
 -- What a write asks, in its order, and what it does if all is answered yes.
-use Rattle.std.specs.Prelude.{ℕ, ◌/◌, ◌%◌, Bool, true, false, cond, not, ◌&&◌, ◌||◌, is_ok, Ok, Err, Result, ◌==◌}
+use Rattle.std.specs.Prelude.{ℕ, ◌/◌, ◌%◌, Bool, true, cond, not, ◌&&◌, ◌||◌, is_ok, Ok, Result, ◌==◌}
 use Rattle.controller.specs.declared.refusal.Refusal.{Refusal}
 use Rattle.controller.specs.declared.refusal.Refusal.TheVariants.{NoSuchAddress, NotSetUp, NotModelled}
 use Rattle.controller.specs.Refusals.{asks}

@@ -1,22 +1,21 @@
 -- Each call does what the rules say, and keeps the chip sound.
-use Rattle.std.specs.Prelude.{◌≡◌, ℕ, ◌<◌, ◌≤◌, Bool, true, false, cond, not, ◌&&◌, ◌||◌, ◌≢◌, List, [], ◌∷◌, Some, None, Ok, Err, Option, Result, ◌==◌, refl}
+use Rattle.std.specs.Prelude.{◌≡◌, ℕ, ◌<◌, Bool, true, false, cond, not, ◌&&◌, ◌||◌, ◌≢◌, Some, None, Ok, Err, Option, ◌==◌, refl}
 use Rattle.std.proofs.Common.{sym, ap, ◌∙◌, subst, ⊎_elim, arith}
-use Rattle.std.proofs.lemmas.Bool.{cases_Bool, cases_eq, cases_lt, and_from, and_parts, and_left, and_right, not_from_false, not_from_true, lt-ltb, le-ltb, ltb-true, both_ways, cond-true, cond-false}
-use Rattle.controller.specs.declared.refusal.Refusal.{Refusal}
+use Rattle.std.proofs.lemmas.Bool.{cases_eq, cases_lt, and_from, and_parts, and_left, and_right, not_from_false, not_from_true, lt-ltb, le-ltb, ltb-true, both_ways, cond-true}
 use Rattle.controller.specs.declared.refusal.Refusal.TheVariants.{NotALine, InService, NotNewest}
 use Rattle.controller.specs.declared.answer.Answer.{Answer}
 use Rattle.controller.specs.declared.answer.Answer.TheVariants.{Accepted, Withdrawn, Noted, Done}
 use Rattle.controller.specs.Refusals.{asks}
-use Rattle.controller.specs.Meaning.{Meaning, among, Beats, Lawful}
+use Rattle.controller.specs.Meaning.{Meaning, among, Lawful}
 use Rattle.controller.specs.Rules.{so, otherwise, marked, onward, tops, Rises, Falls, Opens, Shuts, Takes, Finishes}
-use Rattle.controller.proofs.Marks.{marked-here, marked_other, marks-set, state-same}
+use Rattle.controller.proofs.Marks.{marks-set, state-same}
 use Rattle.i8259a.specs.declared.chip.I8259a.{I8259a}
 use Rattle.i8259a.specs.Bits.{bit, with, without, lowest}
 use Rattle.i8259a.specs.Chip.{is_line, line_answer, risen, fallen, with_irr, with_isr, with_imr}
 use Rattle.i8259a.specs.Signal.{SetUp}
 use Rattle.i8259a.proofs.Sets.{bit-without}
-use Rattle.i8259a_controller.specs.Told.{eight, has, levels_from, meant, Sound}
-use Rattle.i8259a_controller.specs.Steps.{rise_answer, fall_answer, finish_answer, is_atop, TakesLevel, opened_chip, shut_chip, finished_chip}
+use Rattle.i8259a_controller.specs.Told.{has, levels_from, meant, Sound}
+use Rattle.i8259a_controller.specs.Steps.{rise_answer, fall_answer, finish_answer, is_atop, TakesLevel}
 use Rattle.i8259a_controller.specs.Levels.{with_byte, without-byte, has_in, with-here, with-other, without-here, without_other, with-marks, without-marks, climbs, members, tops-atop, stack-with, stack-without}
 use Rattle.i8259a_controller.specs.Signals.{first-ready, none-ready}
 

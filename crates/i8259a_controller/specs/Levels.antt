@@ -1,12 +1,12 @@
 -- A byte's levels as marks and as a stack.
-use Rattle.std.specs.Prelude.{◌≡◌, ℕ, zero, suc, ◌+◌, ◌-◌, ◌^◌, ◌<◌, ◌≤◌, Bool, true, false, cond, not, ◌&&◌, ◌||◌, ◌≢◌, ◌⊎◌, List, [], ◌∷◌, Some, None, Option, ◌==◌, refl}
-use Rattle.std.proofs.Common.{sym, ap, ◌∙◌, subst, inl, inr, ⊎_elim, arith}
+use Rattle.std.specs.Prelude.{◌≡◌, ℕ, zero, suc, ◌+◌, ◌-◌, ◌^◌, ◌<◌, ◌≤◌, Bool, true, false, cond, not, ◌&&◌, ◌||◌, ◌≢◌, ◌⊎◌, List, [], ◌∷◌, Some, ◌==◌, refl}
+use Rattle.std.proofs.Common.{sym, ap, ◌∙◌, inl, inr, ⊎_elim, arith}
 use Rattle.std.proofs.lemmas.Nat.{or_lt, and_le_l, pow_below}
-use Rattle.std.proofs.lemmas.Bool.{cases_Bool, cases_eq, cases_lt, cond_both, cond-true, cond-false, eq-eqb, ne_eqb, lt-ltb, le-ltb, ltb-true, or_cases, and_left, false≢true}
+use Rattle.std.proofs.lemmas.Bool.{cases_eq, cases_lt, cond_both, eq-eqb, ne_eqb, lt-ltb, le-ltb, and_left}
 use Rattle.controller.specs.Meaning.{among, Beats, Climbs}
 use Rattle.controller.specs.Rules.{marked, newest, older, tops}
 use Rattle.controller.proofs.Marks.{marks-set}
-use Rattle.controller.proofs.Stacks.{one-order, climbs-older, among-older, tops-among}
+use Rattle.controller.proofs.Stacks.{one-order, climbs-older, among-older}
 use Rattle.i8259a.specs.Bits.{bit, with, without, lowest, lowest_from}
 use Rattle.i8259a.specs.Chip.{is_line}
 use Rattle.i8259a.proofs.Sets.{bit-with, bit-without}

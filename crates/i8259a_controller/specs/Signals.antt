@@ -1,5 +1,5 @@
 -- What is urgent at the chip is ready at the controller.
-use Rattle.std.specs.Prelude.{◌≡◌, ℕ, ◌<◌, ◌≤◌, Bool, true, false, not, ◌&&◌, ◌||◌, ◌⊎◌, List, [], ◌∷◌, Some, None, Ok, Option, ◌==◌, refl}
+use Rattle.std.specs.Prelude.{◌≡◌, ℕ, ◌<◌, Bool, true, false, not, ◌&&◌, List, [], ◌∷◌, Some, None, Ok, Option, ◌==◌}
 use Rattle.std.proofs.Common.{sym, ap, ◌∙◌, subst, inl, inr, ⊎_elim, arith}
 use Rattle.std.proofs.lemmas.Bool.{cases_Bool, and_from, and_parts, not-true, not_from_false, lt-ltb, ltb-true, both_ways, eqb-true, or_parts, not-false}
 use Rattle.controller.specs.Meaning.{among, Beats, Ready, FirstReady, NoneReady}
@@ -8,7 +8,7 @@ use Rattle.controller.proofs.Stacks.{beats-all, among-head}
 use Rattle.i8259a.specs.declared.chip.I8259a.{I8259a}
 use Rattle.i8259a.specs.declared.chip.Register.TheVariants.{Isr}
 use Rattle.i8259a.specs.Bits.{bit, with, outside, lowest}
-use Rattle.i8259a.specs.Chip.{is_line, shows, with_isr}
+use Rattle.i8259a.specs.Chip.{is_line, shows}
 use Rattle.i8259a.specs.Signal.{Urgent, NoneUrgent, First, Firsts, Signals, Acknowledges, ahead}
 use Rattle.i8259a.proofs.Race.{firsts}
 use Rattle.i8259a_controller.specs.Told.{eight, has, levels_from, meant, Sound}

@@ -1,12 +1,12 @@
 -- The laws of a PLIC's calls.
-use Rattle.std.proofs.Common.{◌≡◌, ℕ, ◌<◌, ◌≤◌, min, Bool, true, false, cond, ◌≢◌, length, get_or, set, sym, refl, ap, ◌∙◌, subst, ⊎_elim, arith}
+use Rattle.std.proofs.Common.{◌≡◌, ℕ, ◌<◌, true, sym, ap, ◌∙◌, ⊎_elim, arith}
 use Rattle.std.proofs.lemmas.List.{get_or-set_same, get_or-set_other}
 use Rattle.std.proofs.lemmas.Bool.{cases_lt, cases_order, both_ways}
 use Rattle.plic.specs.declared.chip.Plic.{Plic}
 use Rattle.plic.specs.declared.gateway.Gateway.{Gateway}
 use Rattle.plic.specs.Gateways.{blank, claimed, completed, requesting}
-use Rattle.plic.specs.Chip.{Source, gate, with_gate, with_threshold, Above, Signals, Claimable, NoneClaimable, First, Claims, Completable, Completes}
-use Rattle.plic.specs.Laws.{Whole, OnlyAt, Laws, ChipLaws}
+use Rattle.plic.specs.Chip.{Source, gate, with_gate, with_threshold, Above, Signals, Claimable, First, Claims}
+use Rattle.plic.specs.Laws.{Whole, OnlyAt, ChipLaws}
 use Rattle.plic.proofs.Reading.{one_register, reads_agree}
 
 module _ (N : ℕ) where

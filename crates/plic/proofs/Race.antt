@@ -1,13 +1,13 @@
 -- The winner of the arbitration tree is the source that a claim answers.
-use Rattle.std.proofs.Common.{◌≡◌, ℕ, ◌<◌, ◌≤◌, min, Bool, true, false, cond, ◌&&◌, ltb, leb, List, length, get_or, Some, None, Option, sym, refl, ap, ◌∙◌, ⊎_elim, arith}
-use Rattle.std.proofs.lemmas.Bool.{cond-true, cond-false, cases_lt, cases_Bool, lt-ltb, le-ltb, ltb-true, leb-true, leb-false, and_parts, and_from}
+use Rattle.std.proofs.Common.{◌≡◌, ℕ, ◌<◌, min, Bool, true, false, cond, ltb, leb, List, Some, None, Option, sym, refl, ap, ◌∙◌, arith}
+use Rattle.std.proofs.lemmas.Bool.{cond-true, lt-ltb, ltb-true, leb-true, leb-false, and_parts, and_from}
 use Rattle.arbiter.specs.Winning.{Holds, Winner}
 use Rattle.arbiter.proofs.Winners.{holds-within}
 use Rattle.arbiter.specs.declared.key.Priority.{Priority}
 use Rattle.plic.specs.declared.gateway.Gateway.{Gateway}
 use Rattle.plic.specs.declared.chip.Plic.{Plic}
-use Rattle.plic.specs.Gateways.{blank, contender, requesting}
-use Rattle.plic.specs.Chip.{Leaves, Claimable, First, Firsts, Source, is_source, gate}
+use Rattle.plic.specs.Gateways.{contender, requesting}
+use Rattle.plic.specs.Chip.{Leaves, Claimable, Firsts, is_source, gate}
 
 -- What a choice gives that does not give nothing.
 chosen : {X : Type 0} (b : Bool) (o : Option X) (x : X) → cond b o None ≡ Some x → (b ≡ true) × (o ≡ Some x)

@@ -1,5 +1,5 @@
 -- What a read or a write of a register does. A refusal, of an offset with no register, changes nothing.
-use Rattle.std.specs.Prelude.{◌≡◌, ℕ, ◌%◌, cond, ◌≢◌, Ok, Err, Result, ◌==◌}
+use Rattle.std.specs.Prelude.{◌≡◌, ℕ, ◌%◌, cond, Ok, Err, Result, ◌==◌}
 use Rattle.controller.specs.declared.refusal.Refusal.{Refusal}
 use Rattle.controller.specs.declared.refusal.Refusal.TheVariants.{NoSuchAddress}
 use Rattle.plic.specs.declared.chip.Plic.{Plic}

@@ -1,5 +1,5 @@
 -- The calls of a bare PLIC with the sources below N, over its whole state before and after.
-use Rattle.std.specs.Prelude.{◌≡◌, ℕ, ◌<◌, ◌≤◌, min, Bool, true, false, cond, ◌&&◌, List, length, replicate, Some, None, Ok, Err, MatchBool, Option, Result, nat_lt, slice_index_or, slice_set}
+use Rattle.std.specs.Prelude.{◌≡◌, ℕ, ◌<◌, ◌≤◌, min, Bool, true, cond, ◌&&◌, List, length, replicate, Some, None, Ok, Err, MatchBool, Option, Result, nat_lt, slice_index_or, slice_set}
 use Rattle.arbiter.specs.declared.key.Priority.{Priority}
 use Rattle.controller.specs.declared.refusal.Refusal.{Refusal}
 use Rattle.controller.specs.declared.refusal.Refusal.TheVariants.{NotALine}

@@ -1,5 +1,5 @@
 -- What the calls of a PLIC come to, in the words of its specification.
-use Rattle.std.specs.Prelude.{◌≡◌, ℕ, ◌<◌, true, false, cond, ◌≢◌, length, Result}
+use Rattle.std.specs.Prelude.{◌≡◌, ℕ, ◌<◌, true, cond, ◌≢◌, length, Result}
 use Rattle.controller.specs.declared.refusal.Refusal.{Refusal}
 use Rattle.plic.specs.declared.chip.Plic.{Plic}
 use Rattle.plic.specs.declared.gateway.Request.TheVariants.{Idle, Pending}

@@ -1,5 +1,5 @@
 -- 32-bit words with one bit to a source: bit i of word w is source 32 × w + i.
-use Rattle.std.specs.Prelude.{◌≡◌, ℕ, ◌+◌, ◌*◌, ◌/◌, ◌%◌, ◌^◌, ◌<◌, Bool, true, false, cond, ◌&&◌, List, length, ◌==◌, slice_index_or}
+use Rattle.std.specs.Prelude.{◌≡◌, ℕ, ◌+◌, ◌*◌, ◌/◌, ◌%◌, ◌^◌, ◌<◌, Bool, false, cond, ◌&&◌, List, length, ◌==◌, slice_index_or}
 use Rattle.plic.specs.declared.gateway.Gateway.{Gateway}
 use Rattle.plic.specs.declared.words.Bit.{Bit}
 use Rattle.plic.specs.declared.words.Bit.TheVariants.{Pending, Enabled}

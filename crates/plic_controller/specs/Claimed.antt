@@ -1,5 +1,5 @@
 -- The lines in service are the claimed ones, and they climb.
-use Rattle.std.specs.Prelude.{◌≡◌, ℕ, ◌-◌, ◌<◌, ◌≤◌, true, false, ◌&&◌, List, [], ◌∷◌, ◌==◌}
+use Rattle.std.specs.Prelude.{◌≡◌, ℕ, ◌-◌, ◌<◌, ◌≤◌, true, ◌&&◌, List, [], ◌∷◌, ◌==◌}
 use Rattle.std.proofs.Common.{sym, ap, ◌∙◌, ⊎_elim, arith}
 use Rattle.std.proofs.lemmas.Bool.{eqb-true, cases_lt, cases_Bool, or_cases, false≢true, lt-ltb, le-ltb}
 use Rattle.plic.specs.declared.gateway.Gateway.{Gateway}

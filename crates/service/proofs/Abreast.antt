@@ -1,5 +1,5 @@
 -- Two dispatchers that go abreast: each call brings back the same from both, and they stay abreast.
-use Rattle.std.proofs.Common.{◌≡◌, List, [], ◌∷◌, refl, ap₂}
+use Rattle.std.proofs.Common.{◌≡◌, List, ◌∷◌, refl, ap₂}
 use Rattle.service.specs.Calls.{Call, Reply}
 use Rattle.service.specs.Steps.{Snapshot, Step}
 use Rattle.service.specs.Runs.{Run, Fresh}

@@ -1,5 +1,5 @@
 -- A dispatcher's state as one value, and what one call does to it.
-use Rattle.std.specs.Prelude.{◌≡◌, ℕ, ◌+◌, List, [], ◌∷◌, length, Some, None, Ok, Option, Result, ◌==◌}
+use Rattle.std.specs.Prelude.{◌≡◌, ℕ, ◌+◌, List, ◌∷◌, length, Some, None, Ok, Option, Result, ◌==◌}
 use Rattle.controller.specs.declared.refusal.Refusal.{Refusal}
 use Rattle.controller.specs.declared.refusal.Refusal.TheVariants.{NotALine, NotNewest, NotHeld, NotParked}
 use Rattle.controller.specs.declared.answer.Answer.{Answer}

@@ -1,4 +1,4 @@
-use Rattle.std.proofs.Common.{Err, refl, rules}
+use Rattle.std.proofs.Common.{Err, refl}
 use Rattle.controller.specs.declared.refusal.Refusal.TheVariants.{NotALine}
 use Rattle.controller.specs.Rules.{Rises, otherwise}
 use Rattle.controller.proofs.Refused.{rises-same}
