@@ -11,7 +11,7 @@ use Rattle.cascade.specs.Sides.{side-outer, side-inner, line-outer, line-inner, 
 use Rattle.cascade.specs.Laws.{at-outer, at_inner, service-outer, service-inner}
 use Rattle.controller.proofs.Marks.{marked_other, state-same}
 use Rattle.controller.proofs.Asking.{asks-map, asks-to, gives-map, turns-map}
-use Rattle.cascade.specs.Ties.{refix, retie}
+use Rattle.cascade.proofs.Ties.{refix, retie}
 
 -- An outer line n other than k.
 module _ (a : Meaning) (k : ℕ) (b : Meaning) (la : Lawful a) (lb : Lawful b) (t : Tied a k b) (n : ℕ) (nw : n < a.fixed.width) (ne : n ≡ k → ⊥) (r : Result Answer Refusal) (a' : Meaning) where

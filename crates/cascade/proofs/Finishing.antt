@@ -14,7 +14,7 @@ use Rattle.cascade.specs.Tie.{Tied}
 use Rattle.cascade.specs.Inside.{KeepsBoth, Ends}
 use Rattle.cascade.specs.Parts.{is_atop}
 use Rattle.cascade.specs.Told.{meant, Sound}
-use Rattle.cascade.specs.Goes.{went, goes}
+use Rattle.cascade.proofs.Goes.{went, goes}
 use Rattle.cascade.proofs.Takings.{atop-newest, finishes-under, finishes-refused, finishes-inner}
 use Rattle.cascade.proofs.Passing.{IsPart, is-inner, inner-line, la, lb}
 

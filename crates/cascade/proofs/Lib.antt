@@ -1,7 +1,10 @@
 pub mod Firsts
+pub mod Ties
+pub mod Again
 pub mod Calls
 pub mod Takings
 pub mod Making
+pub mod Goes
 pub mod Owners
 pub mod Passing
 pub mod Finishing

@@ -12,7 +12,8 @@ use Rattle.cascade.specs.Inside.{KeepsBoth, Hangs}
 use Rattle.cascade.specs.Fit.{is_fit, Checks, Makes}
 use Rattle.cascade.specs.Told.{meant, Sound}
 use Rattle.cascade.proofs.Making.{checks-fit, k-line, opened-kw, opened-hanging, opened-unseen}
-use Rattle.cascade.specs.Goes.{asked, asked-void, told-goes}
+use Rattle.cascade.specs.Lawful.{asked, asked-void}
+use Rattle.cascade.proofs.Goes.{told-goes}
 
 module _ {S T : Type 0} (O : Ghosts S) (I : Ghosts T) (lawO : (o : S) → O.sound o → Lawful (meaning O o)) (outer : S) (k : ℕ) (inner : T) (r : Result (Unit {0}) Refusal) (checked : O.sound outer → I.sound inner → Checks (meaning O outer) k (meaning I inner) r) (fit : Bool) (asks : fit ≡ is_ok r) where
   abbrev a : Meaning

@@ -17,7 +17,8 @@ use Rattle.cascade.specs.Parts.{part_of}
 use Rattle.cascade.specs.Told.{meant, Joined, Sound}
 use Rattle.cascade.specs.Sides.{side-outer, side-inner, line-k, line-outer, line-inner}
 use Rattle.cascade.specs.Laws.{k-in}
-use Rattle.cascade.specs.Goes.{went, asked, asked-void, goes, told-goes}
+use Rattle.cascade.specs.Lawful.{asked, asked-void}
+use Rattle.cascade.proofs.Goes.{went, goes, told-goes}
 use Rattle.cascade.proofs.Owners.{has-told, has-neither, has-outer, has_inner}
 
 -- A number that is no line is refused.

@@ -17,7 +17,7 @@ use Rattle.cascade.specs.Parts.{shifted, is_atop}
 use Rattle.controller.proofs.Marks.{state-same}
 use Rattle.controller.proofs.Stacks.{Below, among-tail, below-head, served-below, tops-among, older-among, older-out, newest-tops}
 use Rattle.controller.proofs.Asking.{asks-map, asks-to, asks-yes, gives-map, turns-map}
-use Rattle.cascade.specs.Ties.{paired_same, refix, retie, told_of, told-after, told-opened, told-stack, told-high, highs-unseen, waits-unseen}
+use Rattle.cascade.proofs.Ties.{paired_same, refix, retie, told_of, told-after, told-opened, told-stack, told-high, highs-unseen, waits-unseen}
 
 -- The stack of a pile whose outer takes or finishes a line.
 

@@ -8,5 +8,4 @@ pub mod Laws
 pub mod Sides
 pub mod Stacks
 pub mod Digits
-pub mod Goes
-pub mod Ties
+pub mod Lawful

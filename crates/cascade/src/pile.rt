@@ -6,7 +6,7 @@ ghost use Rattle.controller.specs.Telling.{meaning};
 ghost use Rattle.cascade.specs.Fit.{Makes};
 ghost use Rattle.cascade.specs.Parts.{part_of, shifted, is_atop};
 ghost use Rattle.cascade.specs.Told.{meant, Sound, Unmoved};
-ghost use Rattle.cascade.specs.Goes.{told-lawful};
+ghost use Rattle.cascade.specs.Lawful.{told-lawful};
 
 use crate::fit::check;
 use crate::inside;

@@ -1,1 +1,3 @@
+pub mod Signals
+pub mod Calls
 pub mod Fresh

@@ -1,6 +1,5 @@
 pub mod Told
 pub mod Steps
 pub mod Members
-pub mod Calls
 pub mod Levels
-pub mod Signals
+pub mod Lawful

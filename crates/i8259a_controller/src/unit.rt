@@ -6,7 +6,7 @@ ghost use Rattle.controller.specs.Rules.{Rises, Falls, Opens, Shuts, Takes, Fini
 ghost use Rattle.i8259a.specs.Chip.{risen, fallen};
 ghost use Rattle.i8259a_controller.specs.Told.{meant, Sound, made, fresh};
 ghost use Rattle.i8259a_controller.specs.Steps.{opened_chip, shut_chip, finished_chip, TakesLevel};
-ghost use Rattle.i8259a_controller.specs.Calls;
+ghost use Rattle.i8259a_controller.specs.Lawful;
 
 use crate::steps;
 use controller::{Answer, Controller, Refusal};
@@ -56,7 +56,7 @@ impl Controller for I8259aController {
 
     ghost sound = { λ c. Sound c.chip };
 
-    ghost lawful = { λ c sound. Calls.lawful c.chip sound };
+    ghost lawful = { λ c sound. Lawful.lawful c.chip sound };
 
     fn width(&self) -> u16 {
         steps::LEVELS

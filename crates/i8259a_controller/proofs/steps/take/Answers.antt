@@ -2,7 +2,7 @@ use Rattle.std.proofs.Common.{◌≡◌, false, None, Ok, sym, subst}
 use Rattle.i8259a.specs.declared.chip.I8259a.{I8259a}
 use Rattle.i8259a.specs.Signal.{Acknowledges}
 use Rattle.i8259a_controller.specs.Steps.{believed, TakesLevel}
-use Rattle.i8259a_controller.specs.Signals.{spurious}
+use Rattle.i8259a_controller.proofs.Signals.{spurious}
 use Rattle.i8259a_controller.proofs.steps.take.Goals as goal
 
 pub returns-else-believed : goal.returns-else-believed

@@ -3,7 +3,7 @@ use Rattle.controller.specs.declared.refusal.Refusal.TheVariants.{NotALine}
 use Rattle.controller.specs.Rules.{Falls, otherwise}
 use Rattle.controller.proofs.Refused.{falls-same}
 use Rattle.cascade.proofs.Calls.{falls-outer, falls-inner}
-use Rattle.cascade.specs.Goes.{went, unmoved-outer, unmoved-both, unmoved-parts}
+use Rattle.cascade.proofs.Goes.{went, unmoved-outer, unmoved-both, unmoved-parts}
 use Rattle.cascade.proofs.Passing.{Refuses, call-neither, call-outer, call-inner}
 use Rattle.cascade.proofs.pile.CascadeController.fall.Goals as goal
 

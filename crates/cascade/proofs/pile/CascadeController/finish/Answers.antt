@@ -3,7 +3,7 @@ use Rattle.controller.specs.declared.refusal.Refusal.TheVariants.{NotALine, NotN
 use Rattle.controller.specs.Rules.{Finishes, Untouched, otherwise}
 use Rattle.cascade.specs.Inside.{KeepsBoth, Ends}
 use Rattle.cascade.specs.Told.{meant, Sound}
-use Rattle.cascade.specs.Goes.{went, unmoved-outer, unmoved-both, unmoved-parts}
+use Rattle.cascade.proofs.Goes.{went, unmoved-outer, unmoved-both, unmoved-parts}
 use Rattle.cascade.proofs.Takings.{finishes-outer}
 use Rattle.cascade.proofs.Passing.{Refuses, call-neither, call-outer}
 use Rattle.cascade.proofs.Finishing.{finish-none, finish-under, finish-inner}

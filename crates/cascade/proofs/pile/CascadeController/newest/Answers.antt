@@ -4,7 +4,8 @@ use Rattle.controller.specs.Rules.{newest}
 use Rattle.controller.proofs.Stacks.{Below, served-below}
 use Rattle.cascade.specs.Parts.{shifted}
 use Rattle.cascade.proofs.Takings.{newest-outer, newest-inner}
-use Rattle.cascade.specs.Goes.{went, asked}
+use Rattle.cascade.specs.Lawful.{asked}
+use Rattle.cascade.proofs.Goes.{went}
 use Rattle.cascade.proofs.pile.CascadeController.newest.Goals as goal
 
 pub returns-else-n-self : goal.returns-else-n-self

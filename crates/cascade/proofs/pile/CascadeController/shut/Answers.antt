@@ -3,7 +3,7 @@ use Rattle.controller.specs.declared.refusal.Refusal.TheVariants.{NotALine}
 use Rattle.controller.specs.Rules.{Shuts, otherwise}
 use Rattle.controller.proofs.Refused.{shuts-same}
 use Rattle.cascade.proofs.Calls.{shuts-outer, shuts-inner}
-use Rattle.cascade.specs.Goes.{went, unmoved-outer, unmoved-both, unmoved-parts}
+use Rattle.cascade.proofs.Goes.{went, unmoved-outer, unmoved-both, unmoved-parts}
 use Rattle.cascade.proofs.Passing.{Refuses, call-neither, call-outer, call-inner}
 use Rattle.cascade.proofs.pile.CascadeController.shut.Goals as goal
 

@@ -2,7 +2,7 @@ use Rattle.std.proofs.Common.{rules}
 use Rattle.controller.specs.Telling.{meaning}
 use Rattle.controller.specs.Rules.{Signals}
 use Rattle.cascade.proofs.Firsts.{pile-signals}
-use Rattle.cascade.specs.Goes.{asked}
+use Rattle.cascade.specs.Lawful.{asked}
 use Rattle.cascade.proofs.pile.CascadeController.signal.Goals as goal
 
 pub returns-then-self : goal.returns-then-self

@@ -4,7 +4,7 @@ use Rattle.controller.specs.Rules.{Takes}
 use Rattle.cascade.specs.Pile.{pile}
 use Rattle.cascade.specs.Parts.{shifted}
 use Rattle.cascade.proofs.Takings.{takes_none, takes-outer, takes-k}
-use Rattle.cascade.specs.Goes.{goes, told-goes}
+use Rattle.cascade.proofs.Goes.{goes, told-goes}
 use Rattle.cascade.proofs.pile.CascadeController.take.Goals as goal
 
 pub returns-else-n-self : goal.returns-else-n-self

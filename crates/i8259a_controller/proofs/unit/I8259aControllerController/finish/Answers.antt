@@ -8,7 +8,7 @@ use Rattle.i8259a.specs.Bits.{without, lowest}
 use Rattle.i8259a.specs.Chip.{with_isr, shows}
 use Rattle.i8259a_controller.specs.Told.{has, meant}
 use Rattle.i8259a_controller.specs.Steps.{is_atop}
-use Rattle.i8259a_controller.specs.Calls.{finishes, finish-refused, moved, unmoved}
+use Rattle.i8259a_controller.proofs.Calls.{finishes, finish-refused, moved, unmoved}
 use Rattle.i8259a_controller.proofs.unit.I8259aControllerController.finish.Goals as goal
 
 pub returns : goal.returns

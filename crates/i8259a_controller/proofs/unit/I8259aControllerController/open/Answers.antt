@@ -1,6 +1,6 @@
 use Rattle.std.proofs.Common.{sym, ◌∙◌, arith}
 use Rattle.std.proofs.lemmas.Bool.{cond-true, lt-ltb}
-use Rattle.i8259a_controller.specs.Calls.{opens}
+use Rattle.i8259a_controller.proofs.Calls.{opens}
 use Rattle.i8259a_controller.proofs.unit.I8259aControllerController.open.Goals as goal
 
 pub returns : goal.returns

@@ -2,7 +2,7 @@ use Rattle.std.proofs.Common.{◌≡◌, sym, ap, ◌∙◌}
 use Rattle.i8259a.specs.declared.chip.I8259a.{I8259a}
 use Rattle.i8259a.specs.declared.chip.Register.TheVariants.{Isr}
 use Rattle.i8259a.specs.Chip.{risen, shows}
-use Rattle.i8259a_controller.specs.Calls.{rises, line_of}
+use Rattle.i8259a_controller.proofs.Calls.{rises, line_of}
 use Rattle.i8259a_controller.proofs.unit.I8259aControllerController.rise.Goals as goal
 
 pub returns : goal.returns

@@ -6,7 +6,7 @@ use Rattle.i8259a.specs.declared.chip.I8259a.{I8259a}
 use Rattle.i8259a.specs.Bits.{with}
 use Rattle.i8259a.specs.Chip.{with_imr}
 use Rattle.i8259a_controller.specs.Told.{has, meant}
-use Rattle.i8259a_controller.specs.Calls.{shuts, shut-refused, moved, unmoved}
+use Rattle.i8259a_controller.proofs.Calls.{shuts, shut-refused, moved, unmoved}
 use Rattle.i8259a_controller.proofs.unit.I8259aControllerController.shut.Goals as goal
 
 pub returns : goal.returns

@@ -1,4 +1,4 @@
-use Rattle.i8259a_controller.specs.Signals.{signals}
+use Rattle.i8259a_controller.proofs.Signals.{signals}
 use Rattle.i8259a_controller.proofs.unit.I8259aControllerController.signal.Goals as goal
 
 pub returns : goal.returns

@@ -1,4 +1,4 @@
-use Rattle.i8259a_controller.specs.Calls.{takes}
+use Rattle.i8259a_controller.proofs.Calls.{takes}
 use Rattle.i8259a_controller.proofs.unit.I8259aControllerController.take.Goals as goal
 
 pub returns : goal.returns

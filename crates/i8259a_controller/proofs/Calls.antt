@@ -1,12 +1,12 @@
 -- Each call does what the rules say, and keeps the chip sound.
 use Rattle.std.specs.Prelude.{◌≡◌, ℕ, ◌<◌, Bool, true, false, cond, not, ◌&&◌, ◌||◌, ◌≢◌, Some, None, Ok, Err, Option, ◌==◌, refl}
 use Rattle.std.proofs.Common.{sym, ap, ◌∙◌, subst, ⊎_elim, arith}
-use Rattle.std.proofs.lemmas.Bool.{cases_eq, cases_lt, and_from, and_parts, and_left, and_right, not_from_false, not_from_true, lt-ltb, le-ltb, ltb-true, both_ways, cond-true}
+use Rattle.std.proofs.lemmas.Bool.{cases_eq, cases_lt, and_from, and_parts, and_left, and_right, not_from_false, not_from_true, lt-ltb, le-ltb, both_ways, cond-true}
 use Rattle.controller.specs.declared.refusal.Refusal.TheVariants.{NotALine, InService, NotNewest}
 use Rattle.controller.specs.declared.answer.Answer.{Answer}
 use Rattle.controller.specs.declared.answer.Answer.TheVariants.{Accepted, Withdrawn, Noted, Done}
 use Rattle.controller.specs.Refusals.{asks}
-use Rattle.controller.specs.Meaning.{Meaning, among, Lawful}
+use Rattle.controller.specs.Meaning.{Meaning, among}
 use Rattle.controller.specs.Rules.{so, otherwise, marked, onward, tops, Rises, Falls, Opens, Shuts, Takes, Finishes}
 use Rattle.controller.proofs.Marks.{marks-set, state-same}
 use Rattle.i8259a.specs.declared.chip.I8259a.{I8259a}
@@ -16,35 +16,8 @@ use Rattle.i8259a.specs.Signal.{SetUp}
 use Rattle.i8259a.proofs.Sets.{bit-without}
 use Rattle.i8259a_controller.specs.Told.{has, levels_from, meant, Sound}
 use Rattle.i8259a_controller.specs.Steps.{rise_answer, fall_answer, finish_answer, is_atop, TakesLevel}
-use Rattle.i8259a_controller.specs.Levels.{with_byte, without-byte, has_in, with-here, with-other, without-here, without_other, with-marks, without-marks, climbs, members, tops-atop, stack-with, stack-without}
-use Rattle.i8259a_controller.specs.Signals.{first-ready, none-ready}
-
-pub lawful : (c : I8259a) → Sound c → Lawful (meant c)
-lawful c s =
-    let serves : (n : ℕ) → among n (levels_from 8 0 c.isr) ≡ true → (is_line n ≡ true) × (bit c.isr n ≡ true) =
-    λ n e. and_parts (is_line n) (bit c.isr n) (sym (members c.isr n) ∙ e) in
-    record {
-      fixed = record {
-        narrow = omega arith;
-        some = omega arith;
-        short = omega arith;
-        within = λ n line. ltb-true n 8 line;
-        classed = λ n line. ltb-true n 8 line;
-        ranked = λ n line. ltb-true n 8 line;
-        own = λ a b la lb e. e;
-        ordered = λ a b la lb lt. omega arith;
-      };
-      state = record {
-        served_line = λ n e. (serves n e).0;
-        served_open = λ n e.
-            let lt : n < 8 = ltb-true n 8 (serves n e).0 in
-            and_from (is_line n) _ (serves n e).0 (not_from_false _ (has_in c.imr n lt ∙ s.served_open n lt (serves n e).1));
-        served_idle = λ n e. and_right (has c.irr n) _ (not_from_true _ (sym (members c.isr n) ∙ e));
-        climbs = climbs c.isr;
-        high_waits = λ n line high out. and_from (has c.irr n) _ high (not_from_false _ (sym (members c.isr n) ∙ out));
-        low_fleeting = λ n line fleeting low. and_left (has c.irr n) _ low;
-      };
-    }
+use Rattle.i8259a_controller.specs.Levels.{with_byte, without-byte, has_in, with-here, with-other, without-here, without_other, with-marks, without-marks, members, tops-atop, stack-with, stack-without}
+use Rattle.i8259a_controller.proofs.Signals.{first-ready, none-ready}
 
 -- A rise or a fall that the chip carried out was of a line.
 pub line_of : (n : ℕ) → line_answer n ≡ Ok tt → n < 8

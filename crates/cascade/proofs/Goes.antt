@@ -1,19 +1,18 @@
 -- From the meanings of the parts to a value of Cascade.
 use Rattle.std.specs.Prelude.{◌≡◌, ℕ, ◌<◌, true, false, Ok, Err, Result}
-use Rattle.std.proofs.Common.{sym, ap, ap₂, subst, subst₂, ⊎_elim}
-use Rattle.std.proofs.lemmas.Bool.{cases_Bool, cond-true, cond-false, both_ways}
+use Rattle.std.proofs.Common.{sym, ap, ap₂, subst, subst₂}
+use Rattle.std.proofs.lemmas.Bool.{cond-true, cond-false, both_ways}
 use Rattle.controller.specs.declared.refusal.Refusal.{Refusal}
 use Rattle.controller.specs.declared.answer.Answer.{Answer}
 use Rattle.controller.specs.declared.telling.Controller.{Ghosts}
 use Rattle.controller.specs.Rules.{Untouched}
 use Rattle.controller.specs.Telling.{meaning}
-use Rattle.controller.specs.Meaning.{Meaning, Lawful}
+use Rattle.controller.specs.Meaning.{Meaning}
 use Rattle.cascade.specs.declared.pile.Cascade.{Cascade}
 use Rattle.cascade.specs.Pile.{pile, void}
 use Rattle.cascade.specs.Tie.{Hanging, Tied, Tells}
 use Rattle.cascade.specs.Told.{fitted, meant, Sound, Unmoved}
-use Rattle.cascade.specs.Laws.{pile-lawful, void-lawful}
-use Rattle.cascade.specs.Ties.{told-tied, told-unseen}
+use Rattle.cascade.proofs.Ties.{told-tied, told-unseen}
 
 ok-not-err : (x : Answer) (e : Refusal) → Ok x ≡ Err e → ⊥
 ok-not-err x e is = cc
@@ -37,13 +36,6 @@ module _ {S T : Type 0} (O : Ghosts S) (I : Ghosts T) (p : Cascade S T) where
   unmoved-parts (Ok x) q h = λ sound e is. absurd (ok-not-err x e is)
   unmoved-parts (Err f) q h = λ sound e is. (ap (λ y. meaning O y.outer) h, ap (λ y. meaning I y.inner) h)
 
-  -- What is asked of parts that fit, and of parts that do not.
-  pub asked : (Q : Meaning → Type 0) → p.fit ≡ true → Q (fitted O I p) → Q (meant O I p)
-  asked Q e h = subst Q (sym (cond-true p.fit (fitted O I p) void e)) h
-
-  pub asked-void : (Q : Meaning → Type 0) → p.fit ≡ false → Q void → Q (meant O I p)
-  asked-void Q e h = subst Q (sym (cond-false p.fit (fitted O I p) void e)) h
-
   -- Parts that fit go on as o and i.
   pub goes : (o : S) (i : T) (Q : Meaning → Meaning → Type 0) → p.fit ≡ true → O.sound o → I.sound i → Tied (meaning O o) p.k (meaning I i) × Q (fitted O I p) (pile (meaning O o) p.k (meaning I i)) → Sound O I (went o i) × Q (meant O I p) (meant O I (went o i))
   goes o i Q e so si h = (
@@ -60,15 +52,3 @@ module _ {S T : Type 0} (O : Ghosts S) (I : Ghosts T) (p : Cascade S T) where
 -- An inner call, after which the outer is told of k.
 pub told-goes : (a : Meaning) (k : ℕ) (b a' : Meaning) (Q : Meaning → Type 0) → k < a.fixed.width → Hanging a k b × Q (pile a k b) → Tells a k b a' → Tied a' k b × Q (pile a' k b)
 told-goes a k b a' Q kw h tells = (told-tied a k b a' h.0 tells, subst Q (sym (told-unseen a k b a' h.0 tells kw)) h.1)
-
--- What a pile of sound parts tells is lawful.
-module _ {S T : Type 0} (O : Ghosts S) (I : Ghosts T) (outer : (o : S) → O.sound o → Lawful (meaning O o)) (inner : (i : T) → I.sound i → Lawful (meaning I i)) where
-  pub told-lawful : (p : Cascade S T) → Sound O I p → Lawful (meant O I p)
-  told-lawful p sound =
-      ⊎_elim
-      (λ fit.
-      let q = sound fit in
-      asked O I p (λ m. Lawful m) fit
-      (pile-lawful (meaning O p.outer) p.k (meaning I p.inner) (outer p.outer q.outer) (inner p.inner q.inner) q.tied.hanging))
-      (λ unfit. asked-void O I p (λ m. Lawful m) unfit void-lawful)
-      (cases_Bool p.fit)
