@@ -11,7 +11,6 @@ use controller::Controller;
 use dispatch::Dispatcher;
 use i8259a_controller::I8259aController;
 use std::process::Abort;
-use std::test::Fail;
 
 const CALLS: usize = 4000;
 
@@ -155,20 +154,17 @@ fn handle(
     rt: &impl Abort,
     dispatcher: &mut Dispatcher<I8259aController>,
     lines: &mut [Line; 8],
-) -> Result<(), Fail> {
+    place: usize,
+) {
     let (start, end) = take_and_close(dispatcher);
-    assert_eq!(rt; start, take(lines));
+    assert_eq!(rt; start, take(lines), "call {place}");
     match start {
         Start(line, _) if line < 8 => {
             let n = usize::from(line);
-            assert_eq!(rt; end, finish(lines, n));
+            assert_eq!(rt; end, finish(lines, n), "call {place}");
             count(&mut lines[n], end);
-            Ok(())
         }
-        _ => {
-            assert_eq!(rt; end, Nothing);
-            Ok(())
-        },
+        _ => assert_eq!(rt; end, Nothing, "call {place}"),
     }
 }
 
@@ -180,7 +176,7 @@ fn call(
     choice: u8,
     n: usize,
     place: usize,
-) -> Result<(), Fail>
+)
     requires { n < 8 }
 {
     let number = n as u16;
@@ -194,7 +190,7 @@ fn call(
         8 => (answered(dispatcher.shut(number)), shut(&mut lines[n])),
         9..=10 => (take_and_park(dispatcher), take(lines)),
         11 => {
-            handle(rt, dispatcher, lines)?;
+            handle(rt, dispatcher, lines, place);
             (Nothing, Nothing)
         }
         12 => (
@@ -209,32 +205,26 @@ fn call(
         assert!(rt; balanced(line), "call {place}");
     }
     assert_eq!(rt; dispatcher.depth(), depth(lines), "call {place}");
-    Ok(())
 }
 
 // Every line falls and every line in service is finished: then each request was withdrawn or has ended.
-fn drained(
-    rt: &impl Abort,
-    dispatcher: &mut Dispatcher<I8259aController>,
-    lines: &mut [Line; 8],
-) -> Result<(), Fail> {
+fn drained(rt: &impl Abort, dispatcher: &mut Dispatcher<I8259aController>, lines: &mut [Line; 8]) {
     for n in 0..8 {
-        call(rt, dispatcher, lines, 4, n, CALLS)?;
-        call(rt, dispatcher, lines, 6, n, CALLS)?;
+        call(rt, dispatcher, lines, 4, n, CALLS);
+        call(rt, dispatcher, lines, 6, n, CALLS);
     }
     for n in 0..8 {
-        call(rt, dispatcher, lines, 13, n, CALLS)?;
+        call(rt, dispatcher, lines, 13, n, CALLS);
     }
     assert_eq!(rt; take_and_park(dispatcher), Spurious(0));
     for line in lines.iter() {
         assert!(rt; line.accepted > 0);
         assert_eq!(rt; line.accepted, line.withdrawn.saturating_add(line.ended));
     }
-    Ok(())
 }
 
 #[test]
-fn random_calls_balance(rt: HostRuntime) -> Result<(), Fail> {
+fn random_calls_balance(rt: HostRuntime) {
     let mut dispatcher = Dispatcher::new(I8259aController::new());
     let mut lines = [IDLE; 8];
     let mut state = 1u32;
@@ -248,7 +238,7 @@ fn random_calls_balance(rt: HostRuntime) -> Result<(), Fail> {
             choice % 16,
             usize::from(line % 8),
             place,
-        )?;
+        );
     }
-    drained(&rt, &mut dispatcher, &mut lines)
+    drained(&rt, &mut dispatcher, &mut lines);
 }

@@ -28,58 +28,59 @@ fn survey_of(length: usize, fault: Option<Refusal>) -> Survey {
 }
 
 // The reader gives the surveyed records, each with its own bytes.
-fn check_records(rt: &impl Abort, reader: &mut Reader, survey: Survey) -> Result<(), Fail> {
+fn check_records(
+    rt: &impl Abort,
+    trace: &[u8],
+    reader: &mut Reader,
+    survey: Survey,
+) -> Result<(), Fail> {
     let mut place = 0;
     for (n, end) in ENDS.iter().enumerate() {
         if n < survey.records {
             let Next::Record(record) = reader.next_record() else {
                 return Err(Fail::new("no record"));
             };
-            assert_eq!(rt; record.place, place);
-            assert_eq!(rt; record.place.saturating_add(record.bytes.len()), *end);
+            assert_eq!(rt; record.place, place, "{trace:?}");
+            assert_eq!(rt;
+                record.place.saturating_add(record.bytes.len()),
+                *end,
+                "{trace:?}"
+            );
             place = *end;
         }
     }
-    assert_eq!(rt; reader.place(), place);
+    assert_eq!(rt; reader.place(), place, "{trace:?}");
     Ok(())
 }
 
 // After them it stays at the end or at the fault, of which it gives all bytes.
 fn check_stays(
     rt: &impl Abort,
+    trace: &[u8],
     reader: &mut Reader,
     survey: Survey,
-    left: usize,
 ) -> Result<(), Fail> {
+    let left = trace.len().saturating_sub(survey.bytes);
     for _ in 0..2 {
         let next = reader.next_record();
-        assert_eq!(rt; next.fault(), survey.fault);
+        assert_eq!(rt; next.fault(), survey.fault, "{trace:?}");
         match next {
-            Next::End => assert_eq!(rt; left, 0),
+            Next::End => assert_eq!(rt; left, 0, "{trace:?}"),
             Next::Record(_) => return Err(Fail::new("a record too many")),
-            Next::UnlawfulMap(rest) | Next::CutRecord(rest) => assert_eq!(rt; rest.len(), left),
+            Next::UnlawfulMap(rest) | Next::CutRecord(rest) => {
+                assert_eq!(rt; rest.len(), left, "{trace:?}")
+            }
         }
-        assert_eq!(rt; reader.place(), survey.bytes);
+        assert_eq!(rt; reader.place(), survey.bytes, "{trace:?}");
     }
     Ok(())
 }
 
-fn check_trace(
-    rt: &impl Abort,
-    trace: &[u8],
-    survey: Survey,
-    what: &str,
-    place: usize,
-) -> Result<(), Fail> {
-    assert_eq!(rt; survey_trace(trace), survey, "{what} {place}");
+fn check_trace(rt: &impl Abort, trace: &[u8], survey: Survey) -> Result<(), Fail> {
+    assert_eq!(rt; survey_trace(trace), survey, "{trace:?}");
     let mut reader = Reader::new(trace);
-    check_records(rt, &mut reader, survey)?;
-    check_stays(
-        rt,
-        &mut reader,
-        survey,
-        trace.len().saturating_sub(survey.bytes),
-    )
+    check_records(rt, trace, &mut reader, survey)?;
+    check_stays(rt, trace, &mut reader, survey)
 }
 
 #[test]
@@ -91,7 +92,7 @@ fn a_trace_is_cut_at_every_length(rt: HostRuntime) -> Result<(), Fail> {
         } else {
             survey_of(length, Some(Refusal::CutRecord))
         };
-        check_trace(&rt, &TRACE[0..length], survey, "cut at", length)?;
+        check_trace(&rt, &TRACE[0..length], survey)?;
     }
     Ok(())
 }
@@ -108,7 +109,7 @@ fn check_spoilt(rt: &impl Abort, place: usize, byte: u8) -> Result<(), Fail> {
     } else {
         survey_of(16, None)
     };
-    check_trace(rt, &trace, survey, "spoilt at", place)
+    check_trace(rt, &trace, survey)
 }
 
 #[test]

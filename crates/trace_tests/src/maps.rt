@@ -70,9 +70,10 @@ fn check_unlawful(rt: &impl Abort, map: u8) -> Result<(), Fail> {
     let mut buffer = [FILL; 6];
     assert_eq!(rt;
         write_record(map, &LINES, &mut buffer),
-        Err(Refusal::UnlawfulMap)
+        Err(Refusal::UnlawfulMap),
+        "map {map}"
     );
-    assert_eq!(rt; buffer, [FILL; 6]);
+    assert_eq!(rt; buffer, [FILL; 6], "map {map}");
     let trace = [map, 0x01, 0x02];
     let mut reader = Reader::new(&trace);
     let Next::UnlawfulMap(rest) = reader.next_record() else {
