@@ -12,7 +12,7 @@ use Rattle.service.specs.Runs.{Run, Fresh}
 use Rattle.service.specs.Law.{Alike, Serves}
 use Rattle.service.proofs.Service.{service-law}
 use Rattle.i8259a_controller.specs.Told.{eight, made, fresh}
-use Rattle.i8259a_controller.specs.Calls.{lawful}
+use Rattle.i8259a_controller.specs.Lawful.{lawful}
 use Rattle.i8259a_controller.proofs.Fresh.{told_fresh}
 use Rattle.worked_cases.specs.Exactly.{Only}
 use Rattle.worked_cases.specs.Scripts.{Script, Plays, just_made, calls, replies, eight_deep_script, seven_alone_script, seven_and_a_fall_script}
