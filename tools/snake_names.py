@@ -110,6 +110,9 @@ def respell(text, skipped, names):
 
 def main():
     names = own_names()
+    if not names:
+        print("nothing to rename")
+        return
     if "--list" in sys.argv:
         for name in sorted(names):
             print(name, names[name])

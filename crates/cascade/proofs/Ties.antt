@@ -1,4 +1,4 @@
--- What keeps the tie between the parts, and what toldOf k does.
+-- What keeps the tie between the parts, and what told_of k does.
 use Rattle.std.specs.Prelude.{◌≡◌, ℕ, ◌<◌, Bool, true, false, List, [], ◌∷◌, refl}
 use Rattle.std.proofs.Common.{sym, ap, subst, ◌∙◌}
 use Rattle.controller.specs.Meaning.{Fixed, State, Meaning, among}
