@@ -1,9 +1,9 @@
 -- What goes on from all leaves is the winner, and there is one winner.
-use Rattle.std.proofs.Common.{◌≡◌, ℕ, ◌<◌, Bool, List, length, Some, None, Option, sym, refl, ap, ◌∙◌, ⊎_elim, arith}
+use Rattle.std.proofs.Common.{◌≡◌, ℕ, ◌<◌, Bool, List, length, Some, None, Option, sym, refl, ap, ◌∙◌, ⊎_elim, subst, arith}
 use Rattle.std.proofs.lemmas.Bool.{cases_lt, cases_order, both_ways}
 use Rattle.std.proofs.lemmas.List.{get_or_past}
 use Rattle.arbiter.specs.declared.tree.Entrant.{Entrant}
-use Rattle.arbiter.specs.Winning.{Holds, Winner}
+use Rattle.arbiter.specs.Winning.{Holds, First, Winner}
 use Rattle.arbiter.specs.Matches.{Best, leaf_of}
 
 -- A leaf that holds a key lies within the leaves.
@@ -14,16 +14,11 @@ holds-within xs j k h =
     (cases_lt j (length xs))
 
 -- The best of all leaves wins.
-pub whole : {K : Type 0} (leq : K → K → Bool) (xs : List (Option K)) (o : Option (Entrant K)) → Best leq xs 0 (length xs) o → Winner leq xs (leaf_of o)
-whole leq xs None p = λ j k h. p j k (omega arith) (holds-within xs j k h) h
+pub whole : {K : Type 0} (leq : K → K → Bool) (xs : List (Option K)) (o : Option (Entrant K)) → Best leq xs 0 o → Winner leq xs (leaf_of o)
+whole leq xs None p = p
 whole leq xs (Some e) p =
-    record {
-      key = e.key;
-      within = p.1;
-      held = p.2;
-      leads = λ j k h. p.3 j k (omega arith) (holds-within xs j k h) h;
-      lowest = λ j k lt h. p.4 j k (omega arith) lt h;
-    }
+    let place : p.0 ≡ e.leaf = omega arith in
+    subst (First leq xs) place (record { key = e.key; within = p.2; held = p.3; leads = p.4; lowest = p.5 })
 
 -- Two winners are the same.
 pub one-winner : {K : Type 0} (leq : K → K → Bool) (xs : List (Option K)) (r s : Option ℕ) → Winner leq xs r → Winner leq xs s → r ≡ s

@@ -1,5 +1,5 @@
 -- The inside of the tree: one match, and what the leaves of one part of it give.
-use Rattle.std.specs.Prelude.{◌≡◌, ℕ, ◌<◌, ◌≤◌, Bool, true, false, cond, List, Some, None, Option}
+use Rattle.std.specs.Prelude.{◌≡◌, ℕ, ◌+◌, ◌<◌, Bool, true, false, cond, List, length, Some, None, Option}
 use Rattle.arbiter.specs.declared.tree.Entrant.{Entrant}
 use Rattle.arbiter.specs.Winning.{Holds}
 
@@ -14,10 +14,10 @@ abbrev pub leaf_of : {K : Type 0} → Option (Entrant K) → Option ℕ
 leaf_of None = None
 leaf_of (Some e) = Some e.leaf
 
--- What goes on from the leaves from a up to b.
-abbrev pub Best : {K : Type 0} → (K → K → Bool) → List (Option K) → ℕ → ℕ → Option (Entrant K) → Type 0
-Best {K} leq leaves a b None = (j : ℕ) (k : K) → a ≤ j → j < b → Holds leaves j k → ⊥
-Best {K} leq leaves a b (Some e) =
-    (a ≤ e.leaf) × (e.leaf < b) × Holds leaves e.leaf e.key
-    × ((j : ℕ) (k : K) → a ≤ j → j < b → Holds leaves j k → leq e.key k ≡ true)
-    × ((j : ℕ) (k : K) → a ≤ j → j < e.leaf → Holds leaves j k → leq k e.key ≡ false)
+-- What goes on from some leaves, of which the first is number a: e, the first of them by its key.
+abbrev pub Best : {K : Type 0} → (K → K → Bool) → List (Option K) → ℕ → Option (Entrant K) → Type 0
+Best {K} leq leaves a None = (j : ℕ) (k : K) → Holds leaves j k → ⊥
+Best {K} leq leaves a (Some e) =
+    (i : ℕ) × (e.leaf ≡ a + i) × (i < length leaves) × Holds leaves i e.key
+    × ((j : ℕ) (k : K) → Holds leaves j k → leq e.key k ≡ true)
+    × ((j : ℕ) (k : K) → j < i → Holds leaves j k → leq k e.key ≡ false)

@@ -2,7 +2,8 @@
 ghost use Rattle.std.specs.Prelude.{◌≡◌, Bool, true, ◌⊎◌, nat_le};
 ghost use Rattle.std.proofs.Common.{rules};
 
-// A key with a total order: `leq a b` says that a comes first or equals b.
+// A key with a total order: `leq a b` says that a comes first or equals b. Not `Ord`, from whose laws it does not follow that
+// keys which lead each other are one and the same; so the two orders below, which differ in one sign, are written out.
 pub trait Key {
     ghost leq: { Self → Self → Bool };
 
@@ -18,7 +19,7 @@ pub trait Key {
 }
 
 // The priority of a PLIC source: the greater comes first.
-#[derive(Clone, Copy)]
+#[derive(Clone, Copy, PartialEq, Eq, Debug)]
 pub struct Priority(pub u8);
 
 impl Key for Priority {
@@ -36,7 +37,7 @@ impl Key for Priority {
 }
 
 // A level of an 8259A: the smaller comes first.
-#[derive(Clone, Copy)]
+#[derive(Clone, Copy, PartialEq, Eq, Debug)]
 pub struct Level(pub u8);
 
 impl Key for Level {

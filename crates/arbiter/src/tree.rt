@@ -1,5 +1,5 @@
 // A tree of matches over any number of leaves: each match lets the better of two halves go on.
-ghost use Rattle.std.specs.Prelude.{◌≡◌, ℕ, ◌≤◌, length, Option};
+ghost use Rattle.std.specs.Prelude.{◌≡◌, ℕ, ◌+◌, ◌^◌, ◌≤◌, length, Option};
 ghost use Rattle.arbiter.specs.Winning.{Winner};
 ghost use Rattle.arbiter.specs.Matches.{Best, played};
 
@@ -23,25 +23,19 @@ fn play<K: Key + Copy>(left: Option<Entrant<K>>, right: Option<Entrant<K>>) -> O
     }
 }
 
-// The best of the leaves from `from` up to `to`, by a match between the best of each half.
-fn best<K: Key + Copy>(leaves: &[Option<K>], from: usize, to: usize) -> Option<Entrant<K>>
-    requires { (from ≤ to) × (to ≤ length leaves.now) }
-    ensures { Best K.leq leaves.now from to result }
+// The best of the leaves, of which the first is number `from`, by a match between the best of each half.
+fn best<K: Key + Copy>(leaves: &[Option<K>], from: usize) -> Option<Entrant<K>>
+    requires { from + length leaves.now ≤ 2 ^ 64 }
+    ensures { Best K.leq leaves.now from result }
 {
-    if from == to {
-        return None;
+    match leaves {
+        [] => None,
+        [leaf] => leaf.map(|key| Entrant { leaf: from, key }),
+        _ => {
+            let (left, right) = leaves.split_at(leaves.len() / 2);
+            play(best(left, from), best(right, from + left.len()))
+        }
     }
-    if to - from == 1 {
-        let leaf = leaves[from];
-        return match leaf {
-            Some(key) => Some(Entrant { leaf: from, key }),
-            None => None,
-        };
-    }
-    let middle = from + (to - from) / 2;
-    let left = best(leaves, from, middle);
-    let right = best(leaves, middle, to);
-    play(left, right)
 }
 
 // The leaf that holds the first key, the lower leaf among equal keys; none if every leaf is empty.
@@ -49,8 +43,5 @@ pub fn winner<K: Key + Copy>(leaves: &[Option<K>]) -> Option<usize>
     ensures wins { Winner K.leq leaves.now result }
     ensures alone { (other : Option ℕ) → Winner K.leq leaves.now other → other ≡ result }
 {
-    match best(leaves, 0, leaves.len()) {
-        Some(entrant) => Some(entrant.leaf),
-        None => None,
-    }
+    best(leaves, 0).map(|entrant| entrant.leaf)
 }

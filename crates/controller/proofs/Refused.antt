@@ -1,9 +1,9 @@
 -- A refused call changes nothing.
-use Rattle.std.proofs.Common.{◌≡◌, ℕ, Ok, Err, Result, ap, arith}
+use Rattle.std.proofs.Common.{◌≡◌, ℕ, Ok, Err, Result, arith}
 use Rattle.controller.specs.declared.refusal.Refusal.{Refusal}
 use Rattle.controller.specs.declared.answer.Answer.{Answer}
 use Rattle.controller.specs.Meaning.{Meaning}
-use Rattle.controller.specs.Rules.{Rises, Falls, Opens, Shuts, Finishes, Untouched, so, otherwise}
+use Rattle.controller.specs.Rules.{Rises, Falls, Opens, Shuts, Finishes, so, otherwise}
 
 -- The rule of a call on one line.
 abbrev pub Rule : Type 1
@@ -36,8 +36,3 @@ pub finishes-same : RefusedSame Finishes
 finishes-same m n e m' (so _ (so _ g)) = absurd (err-ok g.0)
 finishes-same m n e m' (so _ (otherwise _ g)) = g.1
 finishes-same m n e m' (otherwise _ g) = g.1
-
--- A value around one that a refused call left as it was is as it was.
-pub unmoved-in : {A S T : Type 0} (f : S → T) (r : Result A Refusal) (s t : S) → Untouched r s t → Untouched r (f s) (f t)
-unmoved-in f (Ok x) s t h = tt
-unmoved-in f (Err e) s t h = ap f h

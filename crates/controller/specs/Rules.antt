@@ -61,7 +61,7 @@ abbrev pub Turns : Refusal → Meaning → Result Answer Refusal → Meaning →
 Turns e m r m' = (r ≡ Err e) × (m' ≡ m)
 
 -- A refused call leaves the value itself as it was, in every state, sound or not: s before the call, t after it.
-abbrev pub Untouched : {A S : Type 0} → Result A Refusal → S → S → Type 0
+abbrev pub Untouched : {A E S : Type 0} → Result A E → S → S → Type 0
 Untouched (Ok _) s t = Unit {0}
 Untouched (Err _) s t = t ≡ s
 

@@ -1,5 +1,6 @@
 // What a call answers that was carried out.
-ghost use Rattle.std.specs.Prelude.{◌≡◌, Some};
+ghost use Rattle.std.specs.Prelude.{◌≡◌, cond, Some};
+ghost use Rattle.controller.specs.declared.answer.Answer.TheVariants.{Accepted, Noted};
 ghost use Rattle.controller.specs.Answers.{word};
 
 use std::fmt;
@@ -14,6 +15,17 @@ pub enum Answer {
 }
 
 impl Answer {
+    // Accepted if the line waits from now on, and Noted if it does not.
+    pub fn accepted_if(waits: bool) -> Answer
+        ensures { result ≡ cond waits Accepted Noted }
+    {
+        if waits {
+            Answer::Accepted
+        } else {
+            Answer::Noted
+        }
+    }
+
     // The word under which the answer is printed.
     pub fn text(self) -> &'static str
         ensures { result.now ≡ word self }

@@ -32,6 +32,8 @@ pub trait Controller {
     // The sound states: each making gives one, and each call keeps to them.
     ghost sound: { Self → Type 0 };
 
+    // In each clause below the ten members stand by name: a definition in specs/ that took their record instead would
+    // import this trait in a circle.
     fn width(&self) -> u16
         ensures { sound self.now → result ≡ widths self.now };
 

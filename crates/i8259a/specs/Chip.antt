@@ -32,6 +32,10 @@ with_select c x =
 abbrev pub is_line : ℕ → Bool
 is_line n = nat_lt n 8
 
+-- The level of line n, if there is such a line.
+abbrev pub level_answer : ℕ → Result ℕ Refusal
+level_answer n = asks (is_line n) NotALine (Ok n)
+
 -- What a rise or a fall of line n answers.
 abbrev pub line_answer : ℕ → Result (Unit {0}) Refusal
 line_answer n = asks (is_line n) NotALine (Ok tt)

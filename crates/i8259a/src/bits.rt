@@ -11,6 +11,7 @@ pub(crate) fn bit(x: u8, n: u8) -> bool
     (x >> n) % 2 == 1
 }
 
+// A type of levels would carry that n is one, but ports, masks and leaves take the number. `with` and `without` stay two: one function with a flag would say no more, and each caller knows which it wants.
 pub(crate) fn with(x: u8, n: u8) -> u8
     requires { n < 8 }
     ensures { result ≡ with x n }
@@ -28,10 +29,7 @@ pub(crate) fn without(x: u8, n: u8) -> u8
 pub(crate) fn without_lowest(x: u8) -> u8
     ensures { result ≡ without_lowest x }
 {
-    match lowest(x) {
-        Some(n) => without(x, n),
-        None => x,
-    }
+    lowest(x).map_or(x, |n| without(x, n))
 }
 
 // The lowest level of the set, by the arbitration tree.
@@ -39,22 +37,12 @@ pub fn lowest(x: u8) -> Option<u8>
     ensures value { result ≡ lowest x }
     ensures level { IfSome result (λ n. n < 8) }
 {
-    let leaves = levels(x);
-    match winner(&leaves) {
-        Some(n) => Some(n as u8),
-        None => None,
-    }
+    winner(&levels(x)).map(|n| n as u8)
 }
 
 // A leaf for each level: the level itself if the set has it, or nothing.
 fn levels(x: u8) -> [Option<Level>; 8]
     ensures { Levels x result }
 {
-    let mut leaves = [None; 8];
-    for n in 0..8u8 {
-        if bit(x, n) {
-            leaves[n as usize] = Some(Level(n));
-        }
-    }
-    leaves
+    std::array::from_fn(|n| bit(x, n as u8).then_some(Level(n as u8)))
 }

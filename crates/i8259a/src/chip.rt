@@ -1,6 +1,6 @@
 // A chip's registers, its lines, its signal and its acknowledge.
 ghost use Rattle.std.specs.Prelude.{◌≡◌};
-ghost use Rattle.i8259a.specs.Chip.{fresh, line_answer, risen, fallen, shown, read_answer};
+ghost use Rattle.i8259a.specs.Chip.{fresh, level_answer, line_answer, risen, fallen, shown, read_answer};
 ghost use Rattle.i8259a.specs.Laws.{ChipLaws};
 ghost use Rattle.i8259a.specs.Signal.{Signals, Acknowledges, Firsts, ahead};
 
@@ -31,7 +31,7 @@ pub(crate) struct ReadSelect {
 }
 
 impl ReadSelect {
-    // What port 0 reads as, over the two registers.
+    // What port 0 reads as, over the two registers: they are passed, since a look borrows the select alone.
     pub(crate) fn shown(&self, irr: u8, isr: u8) -> u8
         ensures { result ≡ shown self.now.register irr isr }
     {
@@ -51,6 +51,16 @@ pub struct I8259a {
     pub(crate) icw2: u8,
     pub(crate) icw3: u8,
     pub(crate) step: Step,
+}
+
+// The level of line n, which has the same number.
+pub fn level_of(n: u16) -> Result<u8, Refusal>
+    ensures { result ≡ level_answer n }
+{
+    if n > 7 {
+        return Err(Refusal::NotALine);
+    }
+    Ok(n as u8)
 }
 
 impl I8259a {
@@ -77,10 +87,8 @@ impl I8259a {
         ensures answer { result ≡ line_answer n }
         ensures after { self.new ≡ risen self.old n }
     {
-        if n > 7 {
-            return Err(Refusal::NotALine);
-        }
-        self.irr = with(self.irr, n as u8);
+        let level = level_of(n)?;
+        self.irr = with(self.irr, level);
         Ok(())
     }
 
@@ -89,10 +97,8 @@ impl I8259a {
         ensures answer { result ≡ line_answer n }
         ensures after { self.new ≡ fallen self.old n }
     {
-        if n > 7 {
-            return Err(Refusal::NotALine);
-        }
-        self.irr = without(self.irr, n as u8);
+        let level = level_of(n)?;
+        self.irr = without(self.irr, level);
         Ok(())
     }
 
@@ -111,10 +117,7 @@ impl I8259a {
     pub fn signal(&self) -> bool
         ensures { Signals self.now result }
     {
-        match self.step {
-            Step::Done => self.first().is_some(),
-            _ => false,
-        }
+        self.step == Step::Done && self.first().is_some()
     }
 
     // The processor's acknowledge: both pulses in one moment. Without a signal it answers level 7 and sets nothing.
@@ -145,9 +148,5 @@ impl I8259a {
 fn ahead(request: Option<u8>, serving: Option<u8>) -> Option<u8>
     ensures { result ≡ ahead request serving }
 {
-    match (request, serving) {
-        (Some(level), Some(newest)) => { if level < newest { Some(level) } else { None } }
-        (Some(level), None) => Some(level),
-        (None, _) => None,
-    }
+    request.filter(|level| serving.is_none_or(|newest| *level < newest))
 }

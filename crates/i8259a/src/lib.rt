@@ -8,5 +8,5 @@ mod look;
 mod ports;
 
 pub use bits::lowest;
-pub use chip::{I8259a, Register};
+pub use chip::{I8259a, Register, level_of};
 pub use driver::set_up;

@@ -51,6 +51,7 @@ impl I8259a {
         ensures answer { result ≡ shows self.old register n }
         ensures after { self.new ≡ self.old }
     {
+        // It leaves early under a guard of its own, and not by way of `look`: the guard restores on every way out.
         let held = Restore::selecting(&mut self.select, register);
         if n > 7 {
             return false;

@@ -1,6 +1,5 @@
 pub mod Race
 pub mod Packing
-pub mod Empty
 pub mod Reading
 pub mod ChipLaws
 pub mod Offsets

@@ -5,7 +5,6 @@ use Rattle.std.proofs.lemmas.Bool.{cond-true, cond-false, cond_both, and_from, a
 use Rattle.controller.specs.declared.refusal.Refusal.{Refusal}
 use Rattle.plic.specs.declared.chip.Plic.{Plic}
 use Rattle.plic.specs.declared.gateway.Gateway.{Gateway}
-use Rattle.plic.specs.declared.words.Bit.TheVariants as bits
 use Rattle.plic.specs.declared.registers.Register.{Register}
 use Rattle.plic.specs.declared.registers.Register.TheVariants.{SourcePriority, EnableWord, Threshold, ClaimComplete}
 use Rattle.plic.specs.Gateways.{blank, with_enabled, with_priority}
@@ -28,7 +27,7 @@ module _ (N : ℕ) (h : Register) (there : There N h) (p q : Plic N) where
   write-at v (Err e) w = absurd (w.0 h there refl)
 
 -- One bit of an enable word v changed: the word u switches source n, and no other.
-module _ (N : ℕ) (gs : List Gateway) (n v u : ℕ) (on : Bool) (source : Source N n) (word : Word N gs bits.Enabled (n / 32) v)
+module _ (N : ℕ) (gs : List Gateway) (n v u : ℕ) (on : Bool) (source : Source N n) (word : Word N gs (λ g. g.enabled) (n / 32) v)
     (changed : (j : ℕ) → j < 32 → bit u j ≡ cond (eqb j (n % 32)) on (bit v j)) where
   here : enabled_by N (n / 32) u n (get_or gs n blank) ≡ with_enabled (get_or gs n blank) on
   here =
@@ -41,7 +40,7 @@ module _ (N : ℕ) (gs : List Gateway) (n v u : ℕ) (on : Bool) (source : Sourc
       let back : 32 * (n / 32) + k % 32 ≡ k = omega arith in
       changed (k % 32) (omega arith) ∙ cond-false _ _ _ (ne_eqb _ _ other)
       ∙ word.1 (k % 32) (omega arith)
-      ∙ ap (shown N gs bits.Enabled) back
+      ∙ ap (shown N gs (λ g. g.enabled)) back
       ∙ cond-true _ _ _ src
 
   elsewhere : (k : ℕ) → k ≢ n → enabled_by N (n / 32) u k (get_or gs k blank) ≡ get_or gs k blank

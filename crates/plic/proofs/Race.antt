@@ -1,6 +1,7 @@
 -- The winner of the arbitration tree is the source that a claim answers.
 use Rattle.std.proofs.Common.{◌≡◌, ℕ, ◌<◌, min, Bool, true, false, cond, ltb, leb, List, Some, None, Option, sym, refl, ap, ◌∙◌, arith}
 use Rattle.std.proofs.lemmas.Bool.{cond-true, lt-ltb, ltb-true, leb-true, leb-false, and_parts, and_from}
+use Rattle.std.proofs.lemmas.Option.{none-some, cond_some}
 use Rattle.arbiter.specs.Winning.{Holds, Winner}
 use Rattle.arbiter.proofs.Winners.{holds-within}
 use Rattle.arbiter.specs.declared.key.Priority.{Priority}
@@ -12,15 +13,14 @@ use Rattle.plic.specs.Chip.{Leaves, Claimable, Firsts, is_source, gate}
 -- What a choice gives that does not give nothing.
 chosen : {X : Type 0} (b : Bool) (o : Option X) (x : X) → cond b o None ≡ Some x → (b ≡ true) × (o ≡ Some x)
 chosen true o x e = (refl, e)
-chosen false o x e = let z : ◌≡◌ {A = ℕ} 0 1 = cc in absurd (omega arith)
+chosen false o x e = absurd (none-some x e)
 
 -- A contender is enabled and pending, of a priority above 0, and contends under its priority.
 contends : (g : Gateway) (k : Priority) → contender g ≡ Some k → (requesting g ≡ true) × (0 < g.priority) × (k.0 ≡ g.priority)
 contends g k e =
     let outer = chosen (requesting g) _ k e in
-    let inner = chosen (ltb 0 g.priority) _ k outer.1 in
-    let same : ◌≡◌ {A = Priority} (record { 0 = g.priority }) k = let s = inner.1 in cc in
-    (outer.0, ltb-true _ _ inner.0, sym (ap (λ (x : Priority). x.0) same))
+    let inner = cond_some _ _ _ outer.1 in
+    (outer.0, ltb-true _ _ inner.0, sym (ap (λ (x : Priority). x.0) inner.1))
 
 module _ (N : ℕ) (p : Plic N) (ls : List (Option Priority)) (leaves : Leaves N p.gateways ls) where
   claimable : (n : ℕ) (k : Priority) → Holds ls n k → Claimable N p n × (k.0 ≡ (gate N p n).priority)

@@ -1,12 +1,11 @@
 -- An offset has one register, and reads of it agree.
-use Rattle.std.proofs.Common.{◌≡◌, ℕ, ◌/◌, ◌%◌, cond, eqb, ◌≢◌, List, Ok, Err, Result, sym, refl, ap, ◌∙◌, subst, arith}
+use Rattle.std.proofs.Common.{◌≡◌, ℕ, ◌/◌, ◌%◌, Bool, cond, eqb, ◌≢◌, List, Ok, Err, Result, sym, refl, ap, ◌∙◌, subst, arith}
 use Rattle.controller.specs.declared.refusal.Refusal.{Refusal}
 use Rattle.plic.specs.declared.chip.Plic.{Plic}
 use Rattle.plic.specs.declared.gateway.Gateway.{Gateway}
-use Rattle.plic.specs.declared.words.Bit.{Bit}
-use Rattle.plic.specs.declared.words.Bit.TheVariants as bits
 use Rattle.plic.specs.declared.registers.Register.{Register}
 use Rattle.plic.specs.declared.registers.Register.TheVariants.{SourcePriority, PendingWord, EnableWord, Threshold, ClaimComplete}
+use Rattle.plic.specs.Gateways.{is_pending}
 use Rattle.plic.specs.Registers.{address, There}
 use Rattle.plic.specs.Chip.{gate}
 use Rattle.plic.specs.Words.{Word}
@@ -36,21 +35,21 @@ pub one_register : (N : ℕ) (g h : Register) → There N g → There N h → ad
 one_register N g h s t e = sym (located N g s) ∙ ap (λ o. on_page (o / 4096) (o % 4096 / 4)) e ∙ located N h t
 
 -- A word reads as one number.
-pub one_word : (N : ℕ) (gs : List Gateway) (b : Bit) (w v u : ℕ) → Word N gs b w v → Word N gs b w u → u ≡ v
-one_word N gs b w v u x y = same_bits 32 u v y.0 x.0 (λ m lt. y.1 m lt ∙ sym (x.1 m lt))
+pub one_word : (N : ℕ) (gs : List Gateway) (told : Gateway → Bool) (w v u : ℕ) → Word N gs told w v → Word N gs told w u → u ≡ v
+one_word N gs told w v u x y = same_bits 32 u v y.0 x.0 (λ m lt. y.1 m lt ∙ sym (x.1 m lt))
 
 module _ (N : ℕ) (p q t : Plic N) where
   value-agrees : (f : Plic N → ℕ) (v u : ℕ) → (v ≡ f p) × (q ≡ p) → (u ≡ f q) × (t ≡ q) → (u ≡ v) × (q ≡ p) × (t ≡ p)
   value-agrees f v u x y = (y.0 ∙ ap f x.1 ∙ sym x.0, x.1, y.1 ∙ x.1)
 
-  word-agrees : (b : Bit) (w v u : ℕ) → Word N p.gateways b w v × (q ≡ p) → Word N q.gateways b w u × (t ≡ q) → (u ≡ v) × (q ≡ p) × (t ≡ p)
-  word-agrees b w v u x y =
-      (one_word N p.gateways b w v u x.0 (subst (λ (z : Plic N). Word N z.gateways b w u) x.1 y.0), x.1, y.1 ∙ x.1)
+  word-agrees : (told : Gateway → Bool) (w v u : ℕ) → Word N p.gateways told w v × (q ≡ p) → Word N q.gateways told w u × (t ≡ q) → (u ≡ v) × (q ≡ p) × (t ≡ p)
+  word-agrees told w v u x y =
+      (one_word N p.gateways told w v u x.0 (subst (λ (z : Plic N). Word N z.gateways told w u) x.1 y.0), x.1, y.1 ∙ x.1)
 
   register-agrees : (g : Register) (v u : ℕ) → address g ≢ address ClaimComplete → Reading N p g v q → Reading N q g u t → (u ≡ v) × (q ≡ p) × (t ≡ p)
   register-agrees (SourcePriority n) v u ne x y = value-agrees (λ z. cond (eqb n 0) 0 (gate N z n).priority) v u x y
-  register-agrees (PendingWord w) v u ne x y = word-agrees bits.Pending w v u x y
-  register-agrees (EnableWord w) v u ne x y = word-agrees bits.Enabled w v u x y
+  register-agrees (PendingWord w) v u ne x y = word-agrees (λ g. is_pending g.request) w v u x y
+  register-agrees (EnableWord w) v u ne x y = word-agrees (λ g. g.enabled) w v u x y
   register-agrees Threshold v u ne x y = value-agrees (λ z. z.threshold) v u x y
   register-agrees ClaimComplete v u ne x y = absurd (ne refl)
 

@@ -5,8 +5,7 @@ use Rattle.controller.specs.declared.refusal.Refusal.TheVariants.{NoSuchAddress}
 use Rattle.plic.specs.declared.chip.Plic.{Plic}
 use Rattle.plic.specs.declared.registers.Register.{Register}
 use Rattle.plic.specs.declared.registers.Register.TheVariants.{SourcePriority, PendingWord, EnableWord, Threshold, ClaimComplete}
-use Rattle.plic.specs.declared.words.Bit.TheVariants as bits
-use Rattle.plic.specs.Gateways.{with_priority}
+use Rattle.plic.specs.Gateways.{is_pending, with_priority}
 use Rattle.plic.specs.Chip.{gate, with_gate, with_threshold, Claims, Completes}
 use Rattle.plic.specs.Registers.{address, There, Nowhere}
 use Rattle.plic.specs.Words.{Word, Enables}
@@ -14,8 +13,8 @@ use Rattle.plic.specs.Words.{Word, Enables}
 -- A read of register g answers v and leaves q. Only a claim changes anything; source 0 reads as zero.
 abbrev pub Reading : (N : ℕ) → Plic N → Register → ℕ → Plic N → Type 0
 Reading N p (SourcePriority n) v q = (v ≡ cond (n == 0) 0 (gate N p n).priority) × (q ≡ p)
-Reading N p (PendingWord w) v q = Word N p.gateways bits.Pending w v × (q ≡ p)
-Reading N p (EnableWord w) v q = Word N p.gateways bits.Enabled w v × (q ≡ p)
+Reading N p (PendingWord w) v q = Word N p.gateways (λ g. is_pending g.request) w v × (q ≡ p)
+Reading N p (EnableWord w) v q = Word N p.gateways (λ g. g.enabled) w v × (q ≡ p)
 Reading N p Threshold v q = (v ≡ p.threshold) × (q ≡ p)
 Reading N p ClaimComplete v q = Claims N p v q
 

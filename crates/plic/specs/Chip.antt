@@ -44,6 +44,11 @@ Rises N = Changes N risen
 abbrev pub Falls : (N : ℕ) → Plic N → ℕ → Result (Unit {0}) Refusal → Plic N → Type 0
 Falls N = Changes N fallen
 
+-- The place of source n in the table is its number; what is no source has none.
+abbrev pub Placed : ℕ → ℕ → Result ℕ Refusal → Type 0
+Placed N n (Ok i) = Source N n × (i ≡ n)
+Placed N n (Err e) = (Source N n → ⊥) × (e ≡ NotALine)
+
 -- An enabled pending source.
 abbrev pub Requests : (N : ℕ) → Plic N → ℕ → Type 0
 Requests N p n = Source N n × (requesting (gate N p n) ≡ true)
@@ -89,8 +94,11 @@ Completes N p n q =
     (Completable N p n → q ≡ with_gate N p n (completed (gate N p n)))
     × ((Completable N p n → ⊥) → q ≡ p)
 
--- The leaves of the arbitration tree: a key for each source that contends, nothing elsewhere.
+-- A leaf of the arbitration tree: the key of a source that contends, nothing elsewhere.
+abbrev pub leaf_of : ℕ → List Gateway → ℕ → Option Priority
+leaf_of N gs n = cond (is_source N n) (contender (slice_index_or gs n blank)) None
+
 abbrev pub Leaves : ℕ → List Gateway → List (Option Priority) → Type 0
 Leaves N gs ls =
     (length ls ≡ N)
-    × ((n : ℕ) → n < N → slice_index_or ls n None ≡ cond (is_source N n) (contender (slice_index_or gs n blank)) None)
+    × ((n : ℕ) → n < N → slice_index_or ls n None ≡ leaf_of N gs n)

@@ -1,15 +1,14 @@
 // The calls of a bare PLIC with the sources 1 to N - 1. The register map has room for 1,023 sources, so a number above
 // that is no source, whatever N is.
 ghost use Rattle.std.specs.Prelude.{◌≡◌, ℕ};
-ghost use Rattle.plic.specs.Chip.{fresh, Rises, Falls, Completes, Leaves, Firsts, Claims, Signals, gateway_of};
+ghost use Rattle.plic.specs.Chip.{fresh, Rises, Falls, Completes, Leaves, Placed, Firsts, Claims, Signals, gateway_of};
 ghost use Rattle.plic.specs.Laws.{ChipLaws};
 ghost use Rattle.plic.specs.Registers.{There};
 ghost use Rattle.plic.specs.Access.{Reading, Reads, Writing, Writes};
 
-use crate::gateway::{Gateway, limit};
+use crate::gateway::{Gateway, is_source, limit};
 use crate::registers::{Register, locate};
 use crate::words;
-use crate::words::Bit;
 use arbiter::{Priority, winner};
 use controller::Refusal;
 
@@ -36,10 +35,7 @@ impl<const N: usize> Plic<N> {
     pub fn rise(&mut self, n: u16) -> Result<(), Refusal>
         ensures { Rises N self.old n result self.new }
     {
-        let n = usize::from(n);
-        if n == 0 || n >= limit(&self.gateways) {
-            return Err(Refusal::NotALine);
-        }
+        let n = self.source(n)?;
         self.gateways[n].rise();
         Ok(())
     }
@@ -48,10 +44,7 @@ impl<const N: usize> Plic<N> {
     pub fn fall(&mut self, n: u16) -> Result<(), Refusal>
         ensures { Falls N self.old n result self.new }
     {
-        let n = usize::from(n);
-        if n == 0 || n >= limit(&self.gateways) {
-            return Err(Refusal::NotALine);
-        }
+        let n = self.source(n)?;
         self.gateways[n].fall();
         Ok(())
     }
@@ -61,7 +54,7 @@ impl<const N: usize> Plic<N> {
         ensures { result ≡ gateway_of N self.now n }
     {
         let n = usize::from(n);
-        if n < limit(&self.gateways) {
+        if n < limit::<N>() {
             self.gateways[n]
         } else {
             Gateway::new()
@@ -72,33 +65,24 @@ impl<const N: usize> Plic<N> {
     pub fn signal(&self) -> bool
         ensures { Signals N self.now result }
     {
-        match self.first() {
-            Some(n) => self.gateways[n].priority > self.threshold,
-            None => false,
-        }
+        matches!(self.first(), Some(n) if self.gateways[n].priority > self.threshold)
     }
 
     // The register at an offset. A read of the claim register claims.
     pub fn read(&mut self, offset: u32) -> Result<u32, Refusal>
         ensures { Reads N self.old offset result self.new }
     {
-        match locate::<N>(offset) {
-            Some(register) => Ok(self.read_register(register)),
-            None => Err(Refusal::NoSuchAddress),
-        }
+        let register = locate::<N>(offset).ok_or(Refusal::NoSuchAddress)?;
+        Ok(self.read_register(register))
     }
 
     // A value into the register at an offset. A write to the claim register completes.
     pub fn write(&mut self, offset: u32, value: u32) -> Result<(), Refusal>
         ensures { Writes N self.old offset value result self.new }
     {
-        match locate::<N>(offset) {
-            Some(register) => {
-                self.write_register(register, value);
-                Ok(())
-            }
-            None => Err(Refusal::NoSuchAddress),
-        }
+        let register = locate::<N>(offset).ok_or(Refusal::NoSuchAddress)?;
+        self.write_register(register, value);
+        Ok(())
     }
 
     fn read_register(&mut self, register: Register) -> u32
@@ -113,8 +97,8 @@ impl<const N: usize> Plic<N> {
                     u32::from(self.gateways[n].priority)
                 }
             }
-            Register::PendingWord(w) => words::word(&self.gateways, Bit::Pending, w),
-            Register::EnableWord(w) => words::word(&self.gateways, Bit::Enabled, w),
+            Register::PendingWord(w) => words::word(&self.gateways, Gateway::is_pending, w),
+            Register::EnableWord(w) => words::word(&self.gateways, Gateway::is_enabled, w),
             Register::Threshold => u32::from(self.threshold),
             Register::ClaimComplete => self.claim(),
         }
@@ -137,7 +121,8 @@ impl<const N: usize> Plic<N> {
         }
     }
 
-    // Claims the source that comes first; the threshold holds no claim back.
+    // Claims the source that comes first; the threshold holds no claim back. It answers what the register reads as, which is
+    // 0 for none, and so no Option.
     fn claim(&mut self) -> u32
         ensures { Claims N self.old result self.new }
     {
@@ -155,11 +140,7 @@ impl<const N: usize> Plic<N> {
         ensures { Completes N self.old value self.new }
     {
         let n = value as usize;
-        if n == 0 || n >= limit(&self.gateways) {
-            return;
-        }
-        let gateway = self.gateways[n];
-        if gateway.completable() {
+        if is_source::<N>(n) && self.gateways[n].completable() {
             self.gateways[n].complete();
         }
     }
@@ -168,8 +149,19 @@ impl<const N: usize> Plic<N> {
     fn first(&self) -> Option<usize>
         ensures { Firsts N self.now result }
     {
-        let leaves = leaves(&self.gateways);
-        winner(&leaves)
+        winner(&leaves(&self.gateways))
+    }
+
+    // The place of source n in the table; a number that is no source is refused.
+    fn source(&self, n: u16) -> Result<usize, Refusal>
+        ensures { Placed N n result }
+    {
+        let n = usize::from(n);
+        if is_source::<N>(n) {
+            Ok(n)
+        } else {
+            Err(Refusal::NotALine)
+        }
     }
 }
 
@@ -177,9 +169,12 @@ impl<const N: usize> Plic<N> {
 fn leaves<const N: usize>(gateways: &[Gateway; N]) -> [Option<Priority>; N]
     ensures { Leaves N gateways.now result }
 {
+    // Not `std::array::from_fn`: its closure, in a generic function, would need two clauses of its own and a lemma over its calls.
     let mut leaves = [None; N];
-    for n in 1..limit(gateways) {
-        leaves[n] = gateways[n].contender();
+    for (n, gateway) in gateways.iter().enumerate() {
+        if is_source::<N>(n) {
+            leaves[n] = gateway.contender();
+        }
     }
     leaves
 }

@@ -1,5 +1,6 @@
 // What a PLIC keeps of one source: its gateway record, and beside it the source's enable bit and priority.
-ghost use Rattle.std.specs.Prelude.{◌≡◌, min, length};
+ghost use Rattle.std.specs.Prelude.{◌≡◌, min};
+ghost use Rattle.plic.specs.Chip.{is_source};
 ghost use Rattle.plic.specs.Gateways.{blank, risen, fallen, claimed, completed, with_enabled, with_priority, completable, contender, is_pending};
 
 use arbiter::Priority;
@@ -7,24 +8,29 @@ use arbiter::Priority;
 // One more than the greatest source number that the register map has room for.
 const MOST: usize = 1024;
 
-// One more than the greatest source number of a table of N gateways, which are all there.
-pub(crate) fn limit<const N: usize>(gateways: &[Gateway; N]) -> usize
-    ensures value { result ≡ min N 1024 }
-    ensures whole { length gateways.now ≡ N }
+// One more than the greatest source number of a PLIC with the sources below N.
+pub(crate) fn limit<const N: usize>() -> usize
+    ensures { result ≡ min N 1024 }
 {
-    let all: &[Gateway] = gateways;
-    all.len().min(MOST)
+    N.min(MOST)
+}
+
+// Whether n is the number of a source there.
+pub(crate) fn is_source<const N: usize>(n: usize) -> bool
+    ensures { result ≡ is_source N n }
+{
+    n > 0 && n < limit::<N>()
 }
 
 // Where a source's request stands.
-#[derive(Clone, Copy)]
+#[derive(Clone, Copy, PartialEq, Eq, Debug)]
 pub enum Request {
     Idle,
     Pending,
     Claimed,
 }
 
-#[derive(Clone, Copy)]
+#[derive(Clone, Copy, PartialEq, Eq, Debug)]
 pub struct Gateway {
     pub request: Request,
     pub high: bool,
@@ -50,7 +56,7 @@ impl Gateway {
         ensures { self.new ≡ risen self.old }
     {
         self.high = true;
-        if let Request::Idle = self.request {
+        if self.request == Request::Idle {
             self.request = Request::Pending;
         }
     }
@@ -95,29 +101,26 @@ impl Gateway {
     pub(crate) fn completable(self) -> bool
         ensures { result ≡ completable self }
     {
-        match self.request {
-            Request::Claimed => self.enabled,
-            _ => false,
-        }
+        self.request == Request::Claimed && self.enabled
     }
 
     pub(crate) fn is_pending(self) -> bool
         ensures { result ≡ is_pending self.request }
     {
-        match self.request {
-            Request::Pending => true,
-            _ => false,
-        }
+        self.request == Request::Pending
+    }
+
+    pub(crate) fn is_enabled(self) -> bool
+        ensures { result ≡ self.enabled }
+    {
+        self.enabled
     }
 
     // The key under which this source contends for a claim.
     pub(crate) fn contender(self) -> Option<Priority>
         ensures { result ≡ contender self }
     {
-        if self.is_pending() && self.enabled && self.priority > 0 {
-            Some(Priority(self.priority))
-        } else {
-            None
-        }
+        let contends = self.is_pending() && self.enabled && self.priority > 0;
+        contends.then_some(Priority(self.priority))
     }
 }

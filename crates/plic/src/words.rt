@@ -1,44 +1,36 @@
 // Registers of 32 bits, one bit to a source: bit i of word w is source 32 × w + i.
-ghost use Rattle.std.specs.Prelude.{◌≡◌, ℕ, ◌+◌, ◌*◌, ◌^◌, ◌<◌, ◌≤◌, length};
-ghost use Rattle.plic.specs.Words.{Word, Enables, shown, shows};
+ghost use Rattle.std.specs.Prelude.{◌≡◌, ◌<◌, Bool};
+ghost use Rattle.plic.specs.declared.gateway.Gateway.{Gateway};
+ghost use Rattle.plic.specs.Words.{Word, Enables, Tells, shown};
 
-use crate::gateway::{Gateway, limit};
+use crate::gateway::{Gateway, is_source};
 
-// Which bit of a source a word shows.
-#[derive(Clone, Copy)]
-pub(crate) enum Bit {
-    Pending,
-    Enabled,
+// What `shows` tells of source n; what is no source shows nothing.
+fn shown<F: Fn(Gateway) -> bool, const N: usize>(
+    gateways: &[Gateway; N],
+    shows: &F,
+    n: usize,
+) -> bool
+    requires { F.IsAlwaysCallable shows.now }
+    ensures { (told : Gateway → Bool) → Tells (F.post shows.now) told → result ≡ shown N gateways.now told n }
+{
+    is_source::<N>(n) && shows(gateways[n])
 }
 
-fn shows(gateway: Gateway, bit: Bit) -> bool
-    ensures { result ≡ shows bit gateway }
+// Word w of the bits that `shows` tells, put together from its highest bit down.
+pub(crate) fn word<F: Fn(Gateway) -> bool, const N: usize>(
+    gateways: &[Gateway; N],
+    shows: F,
+    w: usize,
+) -> u32
+    requires within { w < 32 }
+    requires callable { F.IsAlwaysCallable shows }
+    ensures { (told : Gateway → Bool) → Tells (F.post shows) told → Word N gateways.now told w result }
 {
-    match bit {
-        Bit::Pending => gateway.is_pending(),
-        Bit::Enabled => gateway.enabled,
-    }
-}
-
-// The bit of n; what is no source shows nothing.
-fn shown<const N: usize>(gateways: &[Gateway; N], bit: Bit, n: usize) -> bool
-    ensures { result ≡ shown N gateways.now bit n }
-{
-    if n > 0 && n < limit(gateways) {
-        shows(gateways[n], bit)
-    } else {
-        false
-    }
-}
-
-// Word w, put together from its highest bit down.
-pub(crate) fn word<const N: usize>(gateways: &[Gateway; N], bit: Bit, w: usize) -> u32
-    requires { w < 32 }
-    ensures { Word N gateways.now bit w result }
-{
+    // Not `fold`: its closure, in a generic function, would need two clauses of its own, one of them that the sum fits.
     let mut value = 0;
     for i in (0..32).rev() {
-        let on = shown(gateways, bit, 32 * w + i);
+        let on = shown(gateways, &shows, 32 * w + i);
         value = 2 * value + u32::from(on);
     }
     value
@@ -48,9 +40,9 @@ pub(crate) fn word<const N: usize>(gateways: &[Gateway; N], bit: Bit, w: usize) 
 pub(crate) fn enable<const N: usize>(gateways: &mut [Gateway; N], w: usize, value: u32)
     ensures { Enables N gateways.old w value gateways.new }
 {
-    for n in 1..limit(gateways) {
-        if n / 32 == w {
-            gateways[n].set_enabled((value >> (n % 32)) % 2 == 1);
+    for (n, gateway) in gateways.iter_mut().enumerate() {
+        if is_source::<N>(n) && n / 32 == w {
+            gateway.set_enabled((value >> (n % 32)) % 2 == 1);
         }
     }
 }

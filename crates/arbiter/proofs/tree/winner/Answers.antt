@@ -1,13 +1,13 @@
-use Rattle.std.proofs.Common.{Some, None}
+use Rattle.std.proofs.Common.{◌≡◌, rules}
+use Rattle.arbiter.specs.Winning.{Winner}
+use Rattle.arbiter.specs.Matches.{leaf_of}
 use Rattle.arbiter.proofs.Winners.{whole, one-winner}
 use Rattle.arbiter.proofs.tree.winner.Goals as goal
 
-pub returns-in-Some : goal.returns-in-Some
-returns-in-Some g c =
-    let wins = whole g.K.Key.leq c.args.leaves.now (Some c.in-Some.entrant) c.in-Some.ensures in
-    record { wins = wins; alone = λ other w. one-winner g.K.Key.leq c.args.leaves.now other _ w wins }
-
-pub returns-in-None : goal.returns-in-None
-returns-in-None g c =
-    let wins = whole g.K.Key.leq c.args.leaves.now None c.in-None.ensures in
-    record { wins = wins; alone = λ other w. one-winner g.K.Key.leq c.args.leaves.now other _ w wins }
+pub returns : goal.returns
+returns g c =
+    let leq = g.K.Key.leq in
+    let leaves = c.args.leaves.now in
+    let is : c.map.result ≡ leaf_of c.best.result = search rules in
+    let wins : Winner leq leaves c.map.result = rw is (whole leq leaves c.best.result c.best.ensures) in
+    record { wins = wins; alone = λ other w. one-winner leq leaves other _ w wins }

@@ -1,16 +1,22 @@
-use Rattle.std.proofs.Common.{◌≡◌, ℕ, suc, ◌+◌, ◌-◌, ◌*◌, Bool, ap, ◌∙◌, arith}
+use Rattle.std.proofs.Common.{◌+◌, ◌*◌, ap, ◌∙◌, arith}
 use Rattle.plic.specs.Words.{shown}
-use Rattle.plic.proofs.Packing.{pack-lt, pack-more}
+use Rattle.plic.proofs.Packing.{pack-lt, pack-bits}
 use Rattle.plic.proofs.words.word.Goals as goal
 
 pub loop-i-preserved : goal.loop-i-preserved
 loop-i-preserved g c =
-    let at : ℕ → Bool = λ k. shown g.row.N c.args.gateways.now c.args.bit (32 * c.args.w + k) in
-    let m : ℕ = 32 - c.loop-i.i in
-    let turns : 32 - (c.loop-i.i - 1) ≡ suc m = omega arith in
-    simp (turns, c.from.ensures) (
-      pack-lt c.shown-on.result c.loop-i.value m c.loop-i.invariant.0,
-      pack-more (λ j. at ((c.loop-i.i - 1) + j)) c.shown-on.result c.loop-i.value m
-          (c.shown-on.ensures ∙ ap at (omega arith))
-          (λ j lt. c.loop-i.invariant.1 j lt ∙ ap at (omega arith)),
+    let on = c.shown-on.result in
+    let v = c.loop-i.value in
+    let i = c.loop-i.i in
+    simp c.from.ensures (
+      pack-lt on v i (omega arith) (omega arith) c.loop-i.invariant.0,
+      (λ told tells. pack-bits (λ k. shown g.row.N c.args.gateways.now told (32 * c.args.w + k)) on v i (omega arith) (omega arith)
+          (c.shown-on.ensures told tells) (c.loop-i.invariant.1 told tells)),
     )
+
+pub returns : goal.returns
+returns g c = λ told tells. (
+  omega arith,
+  (λ i lt. c.loop-i.invariant.1 told tells i (omega arith)
+      ∙ ap (λ k. shown g.row.N c.args.gateways.now told (32 * c.args.w + k)) (omega arith)),
+)

@@ -3,4 +3,4 @@ use Rattle.plic.proofs.chip.Plic.first.Goals as goal
 
 pub returns : goal.returns
 returns g c =
-    firsts g.row.N c.args.self.now c.leaves-leaves.result c.leaves-leaves.ensures c.winner.result c.winner.ensures.wins
+    firsts g.row.N c.args.self.now c.leaves.result c.leaves.ensures c.winner.result c.winner.ensures.wins
