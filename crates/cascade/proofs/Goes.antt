@@ -1,53 +1,57 @@
 -- From the meanings of the parts to a value of Cascade.
-use Rattle.std.specs.Prelude.{◌≡◌, ℕ, ◌<◌, true, false, Ok, Err, Result}
-use Rattle.std.proofs.Common.{sym, ap, ap₂, subst, subst₂}
-use Rattle.std.proofs.lemmas.Bool.{cond-true, cond-false, both_ways}
+use Rattle.std.specs.Prelude.{◌≡◌, ℕ, ◌<◌, Some, Ok, Err, Result}
+use Rattle.std.proofs.Common.{sym, ap, ap₂, subst, subst₂, ◌∙◌}
+use Rattle.std.proofs.lemmas.Option.{same_Some}
 use Rattle.controller.specs.declared.refusal.Refusal.{Refusal}
 use Rattle.controller.specs.declared.answer.Answer.{Answer}
 use Rattle.controller.specs.declared.telling.Controller.{Ghosts}
 use Rattle.controller.specs.Rules.{Untouched}
 use Rattle.controller.specs.Telling.{meaning}
 use Rattle.controller.specs.Meaning.{Meaning}
+use Rattle.controller.proofs.Refused.{Rule}
 use Rattle.cascade.specs.declared.pile.Cascade.{Cascade}
-use Rattle.cascade.specs.Pile.{pile, void}
+use Rattle.cascade.specs.Pile.{pile}
 use Rattle.cascade.specs.Tie.{Hanging, Tied, Tells}
-use Rattle.cascade.specs.Told.{fitted, meant, Sound, Unmoved}
+use Rattle.cascade.specs.Inside.{KeepsBoth, Informs, Passes}
+use Rattle.cascade.specs.Told.{hung, meant, Joined, Sound, Unmoved}
 use Rattle.cascade.proofs.Ties.{told-tied, told-unseen}
 
-ok-not-err : (x : Answer) (e : Refusal) → Ok x ≡ Err e → ⊥
-ok-not-err x e is = cc
-
-module _ {S T : Type 0} (O : Ghosts S) (I : Ghosts T) (p : Cascade S T) where
+module _ {S T : Type 0} (O : Ghosts S) (I : Ghosts T) where
   -- The pile once its parts are o and i.
-  abbrev pub went : S → T → Cascade S T
-  went o i = record { outer = o; k = p.k; inner = i; fit = p.fit }
+  abbrev pub went : Cascade S T → S → T → Cascade S T
+  went p o i = record { outer = o; k = p.k; inner = i }
 
   -- A refusal that left the outer, or both parts, as they were left the pile as it was.
-  pub unmoved-outer : (r : Result Answer Refusal) (o : S) → Untouched r p.outer o → Untouched r p (went o p.inner)
-  unmoved-outer (Ok x) o h = tt
-  unmoved-outer (Err e) o h = ap (λ y. went y p.inner) h
+  pub unmoved-outer : (p : Cascade S T) (r : Result Answer Refusal) (o : S) → Untouched r p.outer o → Untouched r p (went p o p.inner)
+  unmoved-outer p (Ok x) o h = tt
+  unmoved-outer p (Err e) o h = ap (λ y. went p y p.inner) h
 
-  pub unmoved-both : (r : Result Answer Refusal) (o : S) (i : T) → Untouched r p.outer o → Untouched r p.inner i → Untouched r p (went o i)
-  unmoved-both (Ok x) o i h j = tt
-  unmoved-both (Err e) o i h j = ap₂ went h j
+  pub unmoved-both : (p : Cascade S T) (r : Result Answer Refusal) (o : S) (i : T) → Untouched r p.outer o → Untouched r p.inner i → Untouched r p (went p o i)
+  unmoved-both p (Ok x) o i h j = tt
+  unmoved-both p (Err e) o i h j = ap₂ (went p) h j
 
   -- A refused call that left the pile as it was left what both parts tell.
-  pub unmoved-parts : (r : Result Answer Refusal) (q : Cascade S T) → Untouched r p q → Unmoved O I r p q
-  unmoved-parts (Ok x) q h = λ sound e is. absurd (ok-not-err x e is)
-  unmoved-parts (Err f) q h = λ sound e is. (ap (λ y. meaning O y.outer) h, ap (λ y. meaning I y.inner) h)
+  pub unmoved-parts : (p : Cascade S T) (r : Result Answer Refusal) (q : Cascade S T) → Untouched r p q → Unmoved O I r p q
+  unmoved-parts p (Ok x) q h = λ sound e is. let z : ⊥ = cc in absurd z
+  unmoved-parts p (Err f) q h = λ sound e is. (ap (λ y. meaning O y.outer) h, ap (λ y. meaning I y.inner) h)
 
-  -- Parts that fit go on as o and i.
-  pub goes : (o : S) (i : T) (Q : Meaning → Meaning → Type 0) → p.fit ≡ true → O.sound o → I.sound i → Tied (meaning O o) p.k (meaning I i) × Q (fitted O I p) (pile (meaning O o) p.k (meaning I i)) → Sound O I (went o i) × Q (meant O I p) (meant O I (went o i))
-  goes o i Q e so si h = (
-    (λ _. record { outer = so; inner = si; tied = h.0 }),
-    subst₂ Q (sym (cond-true p.fit (fitted O I p) void e)) (sym (cond-true p.fit (pile (meaning O o) p.k (meaning I i)) void e)) h.1,
-  )
+  -- Parts that fit go on as those of p'.
+  pub goes : (p p' : Cascade S T) (k : ℕ) (Q : Meaning → Meaning → Type 0) → p.k ≡ Some k → p'.k ≡ p.k → O.sound p'.outer → I.sound p'.inner → Tied (meaning O p'.outer) k (meaning I p'.inner) × Q (pile (meaning O p.outer) k (meaning I p.inner)) (pile (meaning O p'.outer) k (meaning I p'.inner)) → Sound O I p' × Q (meant O I p) (meant O I p')
+  goes p p' k Q at same so si h =
+      let at' : p'.k ≡ Some k = same ∙ at in (
+        (λ j e. subst (λ x. Joined O I p' x) (same_Some k j (sym at' ∙ e)) (record { outer = so; inner = si; tied = h.0 })),
+        subst₂ (λ x y. Q (hung (meaning O p.outer) x (meaning I p.inner)) (hung (meaning O p'.outer) y (meaning I p'.inner))) (sym at) (sym at') h.1,
+      )
 
-  -- Parts that do not fit stay as they are.
-  pub stays : (Q : Meaning → Meaning → Type 0) → p.fit ≡ false → Q void void → Sound O I p × Q (meant O I p) (meant O I p)
-  stays Q e h =
-      let same = sym (cond-false p.fit (fitted O I p) void e) in
-      ((λ fit. absurd (both_ways p.fit e fit)), subst₂ Q same same h)
+  -- A call of the inner that keeps the rule Q passes to it.
+  pub calls-pass : (Q : Rule) (k m : ℕ) (r : Result Answer Refusal) (o o' : S) (i i' : T) → (I.sound i → I.sound i' × Q (meaning I i) m r (meaning I i')) → Informs O I k r o i' o' → KeepsBoth O I (Passes k Q m r) o i o' i'
+  calls-pass Q k m (Ok x) o o' i i' keeps informs so si =
+      let done = keeps si in
+      let kept = informs so done.0 in
+      (kept.0, done.0, record { goes = done.1; tells = kept.2 })
+  calls-pass Q k m (Err e) o o' i i' keeps informs so si =
+      let done = keeps si in
+      (subst (λ x. O.sound x) (sym informs) so, done.0, (done.1, ap (meaning O) informs))
 
 -- An inner call, after which the outer is told of k.
 pub told-goes : (a : Meaning) (k : ℕ) (b a' : Meaning) (Q : Meaning → Type 0) → k < a.fixed.width → Hanging a k b × Q (pile a k b) → Tells a k b a' → Tied a' k b × Q (pile a' k b)

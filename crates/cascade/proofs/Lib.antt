@@ -7,5 +7,5 @@ pub mod Making
 pub mod Goes
 pub mod Owners
 pub mod Passing
-pub mod Finishing
 pub mod Made
+pub mod Finishing

@@ -1,5 +1,5 @@
 -- A call of a pile on one line, for any rule: refused, handed to the outer, or handed to the inner and k told.
-use Rattle.std.proofs.Common.{◌≡◌, ℕ, ◌+◌, ◌<◌, Bool, true, false, ◌&&◌, ◌≢◌, Ok, Err, Result, sym, refl, ap, ◌∙◌, subst, ap₂, ⊎_elim}
+use Rattle.std.proofs.Common.{◌≡◌, ℕ, ◌+◌, ◌<◌, Bool, false, ◌&&◌, ◌≢◌, Some, Ok, Err, Result, sym, refl, ap, ◌∙◌, subst, ap₂, ⊎_elim}
 use Rattle.controller.specs.declared.telling.Controller.{Ghosts}
 use Rattle.controller.specs.declared.refusal.Refusal.{Refusal}
 use Rattle.controller.specs.declared.refusal.Refusal.TheVariants.{NotALine}
@@ -8,18 +8,18 @@ use Rattle.controller.specs.Telling.{meaning}
 use Rattle.controller.specs.Meaning.{Meaning, Lawful}
 use Rattle.cascade.specs.declared.pile.Cascade.{Cascade}
 use Rattle.cascade.specs.declared.pile.Part.{Part}
-use Rattle.cascade.specs.declared.pile.Part.TheVariants.{Neither, Outer, Inner}
+use Rattle.cascade.specs.declared.pile.Part.TheVariants.{Outer, Inner}
 use Rattle.cascade.specs.Pile.{pile}
 use Rattle.cascade.specs.Tie.{Hanging, Tied}
 use Rattle.controller.proofs.Refused.{Rule, RefusedSame}
-use Rattle.cascade.specs.Inside.{KeepsBoth, Passes}
+use Rattle.cascade.specs.Inside.{Informs}
 use Rattle.cascade.specs.Parts.{part_of}
 use Rattle.cascade.specs.Told.{meant, Joined, Sound}
 use Rattle.cascade.specs.Sides.{side-outer, side-inner, line-k, line-outer, line-inner}
 use Rattle.cascade.specs.Laws.{k-in}
 use Rattle.cascade.specs.Lawful.{asked, asked-void}
-use Rattle.cascade.proofs.Goes.{went, goes, told-goes}
-use Rattle.cascade.proofs.Owners.{has-told, has-neither, has-outer, has_inner}
+use Rattle.cascade.proofs.Goes.{went, goes, calls-pass, told-goes}
+use Rattle.cascade.proofs.Owners.{Has, has-told}
 
 -- A number that is no line is refused.
 abbrev pub Refuses : Rule → Type 0
@@ -33,20 +33,16 @@ PassesOuter Q = (a : Meaning) (k : ℕ) (b : Meaning) → Lawful a → Lawful b 
 abbrev pub PassesInner : Rule → Type 0
 PassesInner Q = (a : Meaning) (k : ℕ) (b : Meaning) → Lawful a → Lawful b → Hanging a k b → (m : ℕ) (r : Result Answer Refusal) (b' : Meaning) → Q b m r b' → Hanging a k b' × Q (pile a k b) (a.fixed.width + m) r (pile a k b')
 
-module _ {S T : Type 0} (O : Ghosts S) (I : Ghosts T) (lawO : (o : S) → O.sound o → Lawful (meaning O o)) (lawI : (i : T) → I.sound i → Lawful (meaning I i)) (p : Cascade S T) (sound : Sound O I p) (n : ℕ) where
+module _ {S T : Type 0} (O : Ghosts S) (I : Ghosts T) (lawO : (o : S) → O.sound o → Lawful (meaning O o)) (lawI : (i : T) → I.sound i → Lawful (meaning I i)) (p : Cascade S T) (sound : Sound O I p) where
   abbrev a : Meaning
   a = meaning O p.outer
 
   abbrev b : Meaning
   b = meaning I p.inner
 
-  -- The part as the call `part` told it.
-  abbrev pub IsPart : Part → Type 0
-  IsPart part = part ≡ part_of p.fit p.k (O.widths p.outer) n
-
-  module _ (fit : p.fit ≡ true) where
-    abbrev pub q : Joined O I p
-    q = sound fit
+  module _ (k : ℕ) (at : p.k ≡ Some k) where
+    abbrev pub q : Joined O I p k
+    q = sound k at
 
     pub la : Lawful a
     la = lawO p.outer q.outer
@@ -54,77 +50,80 @@ module _ {S T : Type 0} (O : Ghosts S) (I : Ghosts T) (lawO : (o : S) → O.soun
     pub lb : Lawful b
     lb = lawI p.inner q.inner
 
-    pub kw : p.k < a.fixed.width
-    kw = k-in a p.k b la lb q.tied.hanging
+    pub kw : k < a.fixed.width
+    kw = k-in a k b la lb q.tied.hanging
 
-  -- A number in neither part is no line.
-  pub neither-line : IsPart Neither → (meant O I p).fixed.line n ≡ false
-  neither-line told =
-      ⊎_elim
-      (λ unfit. asked-void O I p (λ x. x.fixed.line n ≡ false) unfit refl)
-      (λ h. asked O I p (λ x. x.fixed.line n ≡ false) h.0 (ap (pile a p.k b).fixed.line h.1 ∙ line-k a.fixed p.k b.fixed (kw h.0)))
-      (has-neither p.fit p.k (O.widths p.outer) n (has-told p.fit p.k (O.widths p.outer) n Neither told))
+  module _ (n : ℕ) where
+    -- The part as the call `part` told it.
+    abbrev pub IsPart : Result Part Refusal → Type 0
+    IsPart part = part ≡ part_of p.k (O.widths p.outer) n
 
-  pub neither-fleeting : IsPart Neither → false ≡ ((meant O I p).fixed.line n && (meant O I p).fixed.fleeting n)
-  neither-fleeting told = sym (ap (λ b. b && (meant O I p).fixed.fleeting n) (neither-line told))
+    pub has : (part : Result Part Refusal) → IsPart part → Has p.k a.fixed.width n part
+    has part told = has-told p.k (O.widths p.outer) n part told
 
-  pub is-outer : IsPart Outer → (p.fit ≡ true) × (n < a.fixed.width) × (n ≢ p.k)
-  is-outer told = has-outer p.fit p.k (O.widths p.outer) n (has-told p.fit p.k (O.widths p.outer) n Outer told)
+    -- A number in neither part is no line.
+    pub neither-line : (e : Refusal) → IsPart (Err e) → (meant O I p).fixed.line n ≡ false
+    neither-line e told =
+        ⊎_elim
+        (λ unfit. asked-void O I p (λ x. x.fixed.line n ≡ false) unfit refl)
+        (λ at. asked O I p (λ x. x.fixed.line n ≡ false) n at (line-k a.fixed n b.fixed (kw n at)))
+        (has (Err e) told).1
 
-  pub is-inner : (m : ℕ) → IsPart (Inner m) → (p.fit ≡ true) × (a.fixed.width + m ≡ n)
-  is-inner m told = has_inner p.fit p.k (O.widths p.outer) n m (has-told p.fit p.k (O.widths p.outer) n (Inner m) told)
+    pub neither-fleeting : (e : Refusal) → IsPart (Err e) → false ≡ ((meant O I p).fixed.line n && (meant O I p).fixed.fleeting n)
+    neither-fleeting e told = sym (ap (λ b. b && (meant O I p).fixed.fleeting n) (neither-line e told))
 
-  -- Whether n is a line, and whether it is a fleeting one, as the part that has it tells.
-  module _ (r : Bool) where
-    pub outer-line : IsPart Outer → (O.sound p.outer → r ≡ O.lines p.outer n) → r ≡ (meant O I p).fixed.line n
-    outer-line told e =
-        let at = is-outer told in
-        asked O I p (λ x. r ≡ x.fixed.line n) at.0 (e (q at.0).outer ∙ sym (line-outer a.fixed p.k b.fixed n at.1 at.2))
+    -- Whether n is a line, and whether it is a fleeting one, as the part that has it tells.
+    module _ (r : Bool) where
+      pub outer-line : IsPart (Ok Outer) → (O.sound p.outer → r ≡ O.lines p.outer n) → r ≡ (meant O I p).fixed.line n
+      outer-line told e =
+          let h = has (Ok Outer) told in
+          asked O I p (λ x. r ≡ x.fixed.line n) h.0 h.1 (e (q h.0 h.1).outer ∙ sym (line-outer a.fixed h.0 b.fixed n h.2 h.3))
 
-    pub inner-line : (m : ℕ) → IsPart (Inner m) → (I.sound p.inner → r ≡ I.lines p.inner m) → r ≡ (meant O I p).fixed.line n
-    inner-line m told e =
-        let at = is-inner m told in
-        asked O I p (λ x. r ≡ x.fixed.line n) at.0 (e (q at.0).inner ∙ sym (ap (pile a p.k b).fixed.line (sym at.1) ∙ line-inner a.fixed p.k b.fixed m))
+      pub inner-line : (k m : ℕ) → IsPart (Ok (Inner k m)) → (I.sound p.inner → r ≡ I.lines p.inner m) → r ≡ (meant O I p).fixed.line n
+      inner-line k m told e =
+          let h = has (Ok (Inner k m)) told in
+          asked O I p (λ x. r ≡ x.fixed.line n) k h.0 (e (q k h.0).inner ∙ sym (ap (pile a k b).fixed.line (sym h.1) ∙ line-inner a.fixed k b.fixed m))
 
-    pub outer-fleeting : IsPart Outer → (O.sound p.outer → r ≡ (O.lines p.outer n && O.fleets p.outer n)) → r ≡ ((meant O I p).fixed.line n && (meant O I p).fixed.fleeting n)
-    outer-fleeting told e =
-        let at = is-outer told in
-        asked O I p (λ x. r ≡ (x.fixed.line n && x.fixed.fleeting n)) at.0
-        (e (q at.0).outer ∙ sym (ap₂ (λ x y. x && y) (line-outer a.fixed p.k b.fixed n at.1 at.2) (side-outer a.fixed.width _ _ n at.1)))
+      pub outer-fleeting : IsPart (Ok Outer) → (O.sound p.outer → r ≡ (O.lines p.outer n && O.fleets p.outer n)) → r ≡ ((meant O I p).fixed.line n && (meant O I p).fixed.fleeting n)
+      outer-fleeting told e =
+          let h = has (Ok Outer) told in
+          asked O I p (λ x. r ≡ (x.fixed.line n && x.fixed.fleeting n)) h.0 h.1
+          (e (q h.0 h.1).outer ∙ sym (ap₂ (λ x y. x && y) (line-outer a.fixed h.0 b.fixed n h.2 h.3) (side-outer a.fixed.width _ _ n h.2)))
 
-    pub inner-fleeting : (m : ℕ) → IsPart (Inner m) → (I.sound p.inner → r ≡ (I.lines p.inner m && I.fleets p.inner m)) → r ≡ ((meant O I p).fixed.line n && (meant O I p).fixed.fleeting n)
-    inner-fleeting m told e =
-        let at = is-inner m told in
-        asked O I p (λ x. r ≡ (x.fixed.line n && x.fixed.fleeting n)) at.0
-        (e (q at.0).inner ∙ sym (subst (λ j. ((pile a p.k b).fixed.line j && (pile a p.k b).fixed.fleeting j) ≡ (b.fixed.line m && b.fixed.fleeting m)) at.1
-        (ap₂ (λ x y. x && y) (line-inner a.fixed p.k b.fixed m) (side-inner a.fixed.width _ _ m))))
+      pub inner-fleeting : (k m : ℕ) → IsPart (Ok (Inner k m)) → (I.sound p.inner → r ≡ (I.lines p.inner m && I.fleets p.inner m)) → r ≡ ((meant O I p).fixed.line n && (meant O I p).fixed.fleeting n)
+      inner-fleeting k m told e =
+          let h = has (Ok (Inner k m)) told in
+          asked O I p (λ x. r ≡ (x.fixed.line n && x.fixed.fleeting n)) k h.0
+          (e (q k h.0).inner ∙ sym (subst (λ j. ((pile a k b).fixed.line j && (pile a k b).fixed.fleeting j) ≡ (b.fixed.line m && b.fixed.fleeting m)) h.1
+          (ap₂ (λ x y. x && y) (line-inner a.fixed k b.fixed m) (side-inner a.fixed.width _ _ m))))
 
-  module _ (Q : Rule) where
-    pub call-neither : Refuses Q → IsPart Neither → Sound O I p × Q (meant O I p) n (Err NotALine) (meant O I p)
-    call-neither none told = (sound, none (meant O I p) n (neither-line told))
+    module _ (Q : Rule) where
+      pub call-neither : Refuses Q → (e : Refusal) → IsPart (Err e) → (r : Result Answer Refusal) → r ≡ Err e → Sound O I p × Q (meant O I p) n r (meant O I p)
+      call-neither none e told r is = (sound, subst (λ x. Q (meant O I p) n x (meant O I p)) (sym (is ∙ ap Err (has (Err e) told).0)) (none (meant O I p) n (neither-line e told)))
 
-    pub call-outer : PassesOuter Q → IsPart Outer → (r : Result Answer Refusal) (o : S) → (O.sound p.outer → O.sound o × Q a n r (meaning O o)) → Sound O I (went O I p o p.inner) × Q (meant O I p) n r (meant O I (went O I p o p.inner))
-    call-outer passes told r o called =
-        let at = is-outer told in
-        let fit = at.0 in
-        let done = called (q fit).outer in
-        goes O I p o p.inner (λ m m'. Q m n r m') fit done.0 (q fit).inner (passes a p.k b (la fit) (lb fit) (q fit).tied n at.1 at.2 r (meaning O o) done.1)
+      pub call-outer : PassesOuter Q → IsPart (Ok Outer) → (r : Result Answer Refusal) (o : S) → (O.sound p.outer → O.sound o × Q a n r (meaning O o)) → Sound O I (went O I p o p.inner) × Q (meant O I p) n r (meant O I (went O I p o p.inner))
+      call-outer passes told r o called =
+          let h = has (Ok Outer) told in
+          let k = h.0 in
+          let at = h.1 in
+          let done = called (q k at).outer in
+          goes O I p (went O I p o p.inner) k (λ m m'. Q m n r m') at refl done.0 (q k at).inner (passes a k b (la k at) (lb k at) (q k at).tied n h.2 h.3 r (meaning O o) done.1)
 
-    pub call-inner : PassesInner Q → RefusedSame Q → (m : ℕ) → IsPart (Inner m) → (r : Result Answer Refusal) (o : S) (i : T) → KeepsBoth O I (Passes p.k Q m r) p.outer p.inner o i → Sound O I (went O I p o i) × Q (meant O I p) n r (meant O I (went O I p o i))
-    call-inner passes same m told (Ok x) o i called =
-        let at = is-inner m told in
-        let fit = at.0 in
-        let done = called (q fit).outer (q fit).inner in
-        let both = told-goes a p.k (meaning I i) (meaning O o) (λ y. Q (pile a p.k b) (a.fixed.width + m) (Ok x) y) (kw fit) (passes a p.k b (la fit) (lb fit) (q fit).tied.hanging m (Ok x) (meaning I i) done.2.goes) done.2.tells in
-        goes O I p o i (λ m m'. Q m n (Ok x) m') fit done.0 done.1 (both.0, subst (λ j. Q (pile a p.k b) j (Ok x) (pile (meaning O o) p.k (meaning I i))) at.1 both.1)
-    call-inner passes same m told (Err e) o i called =
-        let at = is-inner m told in
-        let fit = at.0 in
-        let done = called (q fit).outer (q fit).inner in
-        let inside = same b m e (meaning I i) done.2.0 in
-        let passed = (passes a p.k b (la fit) (lb fit) (q fit).tied.hanging m (Err e) (meaning I i) done.2.0).1 in
-        goes O I p o i (λ m m'. Q m n (Err e) m') fit done.0 done.1 (
-          subst (λ x. Tied x p.k (meaning I i)) (sym done.2.1) (subst (λ y. Tied a p.k y) (sym inside) (q fit).tied),
-          subst (λ x. Q (pile a p.k b) n (Err e) (pile x p.k (meaning I i))) (sym done.2.1)
-              (subst (λ j. Q (pile a p.k b) j (Err e) (pile a p.k (meaning I i))) at.1 passed),
-        )
+      pub call-inner : PassesInner Q → RefusedSame Q → (k m : ℕ) → IsPart (Ok (Inner k m)) → (r : Result Answer Refusal) (p' : Cascade S T) → p'.k ≡ p.k → (I.sound p.inner → I.sound p'.inner × Q b m r (meaning I p'.inner)) → Informs O I k r p.outer p'.inner p'.outer → Sound O I p' × Q (meant O I p) n r (meant O I p')
+      call-inner passes same k m told (Ok x) p' kept called informs =
+          let h = has (Ok (Inner k m)) told in
+          let at = h.0 in
+          let done = calls-pass O I Q k m (Ok x) p.outer p'.outer p.inner p'.inner called informs (q k at).outer (q k at).inner in
+          let both = told-goes a k (meaning I p'.inner) (meaning O p'.outer) (λ y. Q (pile a k b) (a.fixed.width + m) (Ok x) y) (kw k at) (passes a k b (la k at) (lb k at) (q k at).tied.hanging m (Ok x) (meaning I p'.inner) done.2.goes) done.2.tells in
+          goes O I p p' k (λ m m'. Q m n (Ok x) m') at kept done.0 done.1 (both.0, subst (λ j. Q (pile a k b) j (Ok x) (pile (meaning O p'.outer) k (meaning I p'.inner))) h.1 both.1)
+      call-inner passes same k m told (Err e) p' kept called informs =
+          let h = has (Ok (Inner k m)) told in
+          let at = h.0 in
+          let done = calls-pass O I Q k m (Err e) p.outer p'.outer p.inner p'.inner called informs (q k at).outer (q k at).inner in
+          let inside = same b m e (meaning I p'.inner) done.2.0 in
+          let passed = (passes a k b (la k at) (lb k at) (q k at).tied.hanging m (Err e) (meaning I p'.inner) done.2.0).1 in
+          goes O I p p' k (λ m m'. Q m n (Err e) m') at kept done.0 done.1 (
+            subst (λ x. Tied x k (meaning I p'.inner)) (sym done.2.1) (subst (λ y. Tied a k y) (sym inside) (q k at).tied),
+            subst (λ x. Q (pile a k b) n (Err e) (pile x k (meaning I p'.inner))) (sym done.2.1)
+                (subst (λ j. Q (pile a k b) j (Err e) (pile a k (meaning I p'.inner))) h.1 passed),
+          )

@@ -1,6 +1,8 @@
 -- Take and finish on a pile.
-use Rattle.std.proofs.Common.{◌≡◌, ℕ, ◌+◌, ◌-◌, ◌%◌, ◌<◌, ◌≤◌, Bool, true, false, cond, eqb, List, [], ◌∷◌, Some, None, Ok, Err, Option, Result, sym, refl, ap, ◌∙◌, subst, ap₂, arith}
-use Rattle.std.proofs.lemmas.Bool.{eq-eqb, ne_eqb, eqb-true, both_ways, or_left, false≢true}
+use Rattle.std.proofs.Common.{◌≡◌, ℕ, ◌+◌, ◌-◌, ◌%◌, ◌<◌, ◌≤◌, Bool, true, false, cond, eqb, List, [], ◌∷◌, Some, None, Ok, Err, Option, Result, sym, refl, ap, ◌∙◌, subst, ap₂, ⊎_elim, arith}
+use Rattle.std.specs.Option.{option_eq}
+use Rattle.std.proofs.lemmas.Option.{same_Some, none-some}
+use Rattle.std.proofs.lemmas.Bool.{eq-eqb, ne_eqb, eqb-true, cases_eq, both_ways, or_left, false≢true}
 use Rattle.controller.specs.declared.refusal.Refusal.{Refusal}
 use Rattle.controller.specs.declared.refusal.Refusal.TheVariants.{NotNewest}
 use Rattle.controller.specs.declared.answer.Answer.{Answer}
@@ -13,11 +15,10 @@ use Rattle.cascade.specs.Sides.{line-outer, line-inner, mark-k, mark-set-outer, 
 use Rattle.cascade.specs.Stacks.{renamed-k, renamed-other, replaced-plain, eqb-outer, eqb-shift}
 use Rattle.cascade.specs.Laws.{at-outer, at_inner, k-in}
 use Rattle.cascade.proofs.Firsts.{first-outer, first_inner, none-pile, k-high, k-out, inner-still, signals-some}
-use Rattle.cascade.specs.Parts.{shifted, is_atop}
 use Rattle.controller.proofs.Marks.{state-same}
 use Rattle.controller.proofs.Stacks.{Below, among-tail, below-head, served-below, tops-among, older-among, older-out, newest-tops}
 use Rattle.controller.proofs.Asking.{asks-map, asks-to, asks-yes, gives-map, turns-map}
-use Rattle.cascade.proofs.Ties.{paired_same, refix, retie, told_of, told-after, told-opened, told-stack, told-high, highs-unseen, waits-unseen}
+use Rattle.cascade.proofs.Ties.{paired_same, refix, retie, told_of, told-after, told-tied, told-unseen, told-opened, told-stack, told-high, highs-unseen, waits-unseen}
 
 -- The stack of a pile whose outer takes or finishes a line.
 
@@ -75,17 +76,30 @@ module _ (a : Meaning) (k : ℕ) (b : Meaning) (la : Lawful a) (lb : Lawful b) (
         (first_inner a k b la lb t m h.0 i.0, ap₂ (λ x y. pile x k y) h.1 i.1 ∙ ap (onward (pile a k b)) (state-same refl refl waits stack)),
       )
 
-  -- The outer takes k, and the inner is asked: it does take a line.
-  pub takes-k : (taken : Option ℕ) (a' b' : Meaning) → Takes a (Some k) a' → Takes b taken b' → Hanging a' k b' × Takes (pile a k b) (shifted w taken) (pile a' k b')
-  takes-k None a' b' h i =
+  -- Where the outer takes k, the inner has a line to take.
+  pub takes-idle : (a' b' : Meaning) → Takes a (Some k) a' → Takes b None b' → ⊥
+  takes-idle a' b' h i =
       let some = signals-some b (a.state.high k) t.calls (k-high a k b la lb t h.0.ready) in
-      absurd (i.0 some.0 some.1.ready)
-  takes-k (Some m) a' b' h i =
+      i.0 some.0 some.1.ready
+
+  -- It is numbered without a wrap.
+  pub takes-k : (m : ℕ) (a' b' : Meaning) → Takes a (Some k) a' → Takes b (Some m) b' → Hanging a' k b' × Takes (pile a k b) (Some ((w + m) % 65536)) (pile a' k b')
+  takes-k m a' b' h i =
       let low : m < b.fixed.width = lb.fixed.within m i.0.ready.line in
       let narrow : w + b.fixed.width ≤ 256 = t.hanging.narrow in
       let fits : w + m ≡ (w + m) % 65536 = omega arith in
       let both = takes-inner m a' b' h i in
       (both.0, subst (λ j. Takes (pile a k b) (Some j) (pile a' k b')) fits both.1)
+
+  -- And the outer is told of k.
+  pub takes-told : (m : ℕ) (a₁ b' a₂ : Meaning) → Takes a (Some k) a₁ → Takes b (Some m) b' → Tells a₁ k b' a₂ → Tied a₂ k b' × Takes (pile a k b) (Some ((w + m) % 65536)) (pile a₂ k b') × (a₂.fixed.width ≡ w)
+  takes-told m a₁ b' a₂ h i tells =
+      let both = takes-k m a₁ b' h i in
+      let kw : k < a₁.fixed.width = subst (λ (x : Meaning). k < x.fixed.width) (sym h.1) (k-in a k b la lb t.hanging) in (
+        told-tied a₁ k b' a₂ both.0 tells,
+        subst (λ x. Takes (pile a k b) (Some ((w + m) % 65536)) x) (sym (told-unseen a₁ k b' a₂ both.0 tells kw)) both.1,
+        ap (λ (x : Meaning). x.fixed.width) (told-after a₁ k b' a₂ both.0.line tells ∙ ap (λ (x : Meaning). onward x (told_of a₁ k tells.calls)) h.1),
+      )
 
   pub finishes-outer : (n : ℕ) → n < w → (n ≡ k → ⊥) → (r : Result Answer Refusal) (a' : Meaning) → Finishes a n r a' → Tied a' k b × Finishes (pile a k b) n r (pile a' k b)
   finishes-outer n nw ne r a' h = (
@@ -112,30 +126,39 @@ module _ (a : Meaning) (k : ℕ) (b : Meaning) (la : Lawful a) (lb : Lawful b) (
 
 -- The newest line of a pile.
 
+pub newest_none : (k w : ℕ) (ins xs : List ℕ) → None ≡ newest xs → None ≡ newest (replaced k w ins xs)
+newest_none k w ins [] e = refl
+newest_none k w ins (x ∷ xs) e = absurd (none-some x e)
+
 pub newest-outer : (k w : ℕ) (ins xs : List ℕ) (n : ℕ) → (n ≡ k → ⊥) → Some n ≡ newest xs → Some n ≡ newest (replaced k w ins xs)
-newest-outer k w ins [] n ne e = let z : ◌≡◌ {A = ℕ} 0 1 = cc in absurd (omega arith)
-newest-outer k w ins (x ∷ xs) n ne e = let same : n ≡ x = cc in ap Some (same ∙ sym (renamed-other k w ins x (λ bad. ne (same ∙ bad))))
+newest-outer k w ins [] n ne e = absurd (none-some n (sym e))
+newest-outer k w ins (x ∷ xs) n ne e = let same : n ≡ x = same_Some n x e in ap Some (same ∙ sym (renamed-other k w ins x (λ bad. ne (same ∙ bad))))
 
 -- k is newest outside, and so is an inner line inside.
-pub newest-inner : (k w : ℕ) (ins xs : List ℕ) → Paired k xs ins → Below (65536 - w) ins → Some k ≡ newest xs → shifted w (newest ins) ≡ newest (replaced k w ins xs)
+pub newest-idle : (k : ℕ) (ins xs : List ℕ) → Paired k xs ins → Some k ≡ newest xs → None ≡ newest ins → ⊥
+newest-idle k [] xs paired top none = both_ways (among k xs) paired (tops-among k xs (newest-tops xs k top))
+newest-idle k (i ∷ is) xs paired top none = none-some i none
+
+pub newest-inner : (k w : ℕ) (ins xs : List ℕ) (m : ℕ) → Below (65536 - w) ins → Some k ≡ newest xs → Some m ≡ newest ins → Some ((w + m) % 65536) ≡ newest (replaced k w ins xs)
 unfolding instead
-newest-inner k w ins [] paired small top = let z : ◌≡◌ {A = ℕ} 0 1 = cc in absurd (omega arith)
-newest-inner k w [] (x ∷ xs) paired small top = absurd (both_ways (among k (x ∷ xs)) paired (tops-among k (x ∷ xs) (newest-tops (x ∷ xs) k top)))
-newest-inner k w (i ∷ is) (x ∷ xs) paired small top =
-    let here : k ≡ x = cc in
+newest-inner k w [] xs m small top e = absurd (none-some m (sym e))
+newest-inner k w (i ∷ is) [] m small top e = absurd (none-some k (sym top))
+newest-inner k w (i ∷ is) (x ∷ xs) m small top e =
+    let here : k ≡ x = same_Some k x top in
+    let same : m ≡ i = same_Some m i e in
     let low : i < 65536 - w = below-head (65536 - w) i is small in
-    let fits : (w + i) % 65536 ≡ w + i = omega arith in
+    let fits : (w + m) % 65536 ≡ w + i = omega arith in
     ap Some (fits ∙ sym (renamed-k k w (i ∷ is)) ∙ ap (renamed k w (i ∷ is)) here)
 
 -- Finishing an inner line.
 
 -- Whether k is newest, as it is told.
-pub atop-newest : (k : ℕ) (xs : List ℕ) (line : Option ℕ) → line ≡ newest xs → is_atop line k ≡ tops xs k
-atop-newest k xs line e = ap (λ x. is_atop x k) e ∙ by-stack xs
+pub atop-newest : (k : ℕ) (xs : List ℕ) (line : Option ℕ) → line ≡ newest xs → option_eq eqb line (Some k) ≡ tops xs k
+atop-newest k xs line e = ap (λ x. option_eq eqb x (Some k)) e ∙ by-stack xs
   where
-    by-stack : (xs : List ℕ) → is_atop (newest xs) k ≡ tops xs k
+    by-stack : (xs : List ℕ) → option_eq eqb (newest xs) (Some k) ≡ tops xs k
     by-stack [] = refl
-    by-stack (x ∷ xs) = refl
+    by-stack (x ∷ xs) = ⊎_elim (λ e. eq-eqb x k e ∙ sym (eq-eqb k x (sym e))) (λ ne. ne_eqb x k ne ∙ sym (ne_eqb k x (λ e. ne (sym e)))) (cases_eq x k)
 
 pub paired-older : (k : ℕ) (ins xs : List ℕ) → Paired k xs ins → among k (older xs) ≡ false → Paired k (older xs) (older ins)
 paired-older k [] xs h out = out

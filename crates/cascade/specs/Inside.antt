@@ -5,19 +5,16 @@ use Rattle.controller.specs.declared.refusal.Refusal.{Refusal}
 use Rattle.controller.specs.declared.answer.Answer.{Answer}
 use Rattle.controller.specs.Meaning.{Meaning}
 use Rattle.controller.specs.Telling.{meaning}
-use Rattle.controller.specs.Rules.{Opens, Finishes}
 use Rattle.cascade.specs.Tie.{Tells}
 
 -- Two sound parts become sound ones, and what they tell before and after stands in the relation Q.
 abbrev pub KeepsBoth : {S T : Type 0} → Ghosts S → Ghosts T → (Meaning → Meaning → Meaning → Meaning → Type 0) → S → T → S → T → Type 0
 KeepsBoth O I Q o i o' i' = O.sound o → I.sound i → O.sound o' × I.sound i' × Q (meaning O o) (meaning I i) (meaning O o') (meaning I i')
 
--- The outer opens k, and is told of it.
-pub record Hangs (a : Meaning) (k : ℕ) (b a' : Meaning) : Type 0 where
-  pub opened : Meaning
-  pub answer : Result Answer Refusal
-  pub opens : Opens a k answer opened
-  pub tells : Tells opened k b a'
+-- After a call of the inner that answered r: if it was carried out, the outer is told of k; if refused, it is as it was.
+abbrev pub Informs : {S T : Type 0} → Ghosts S → Ghosts T → ℕ → Result Answer Refusal → S → T → S → Type 0
+Informs O I k (Ok x) o i o' = KeepsBoth O I (λ a b a' _. Tells a k b a') o i o' i
+Informs O I k (Err e) o i o' = o' ≡ o
 
 -- The inner goes from b to b' by R, and the outer is told of k.
 pub record Inside (k : ℕ) (R : Meaning → Meaning → Type 0) (a b a' b' : Meaning) : Type 0 where
@@ -28,15 +25,3 @@ pub record Inside (k : ℕ) (R : Meaning → Meaning → Type 0) (a b a' b' : Me
 abbrev pub Passes : ℕ → (Meaning → ℕ → Result Answer Refusal → Meaning → Type 0) → ℕ → Result Answer Refusal → Meaning → Meaning → Meaning → Meaning → Type 0
 Passes k Rule m (Ok x) a b a' b' = Inside k (λ y y'. Rule y m (Ok x) y') a b a' b'
 Passes k Rule m (Err e) a b a' b' = Rule b m (Err e) b' × (a' ≡ a)
-
--- The outer is told of k, and finishes it.
-pub record Settles (a : Meaning) (k : ℕ) (b a' : Meaning) : Type 0 where
-  pub informed : Meaning
-  pub answer : Result Answer Refusal
-  pub tells : Tells a k b informed
-  pub finishes : Finishes informed k answer a'
-
--- The inner finishes m, and the outer settles k. What the inner refuses leaves the outer as it was.
-abbrev pub Ends : ℕ → ℕ → Result Answer Refusal → Meaning → Meaning → Meaning → Meaning → Type 0
-Ends k m (Ok x) a b a' b' = Finishes b m (Ok x) b' × Settles a k b' a'
-Ends k m (Err e) a b a' b' = Finishes b m (Err e) b' × (a' ≡ a)

@@ -2,6 +2,7 @@
 use Rattle.std.specs.Prelude.{◌≡◌, ℕ, ◌+◌, ◌-◌, ◌<◌, ◌≤◌, Bool, true, false, cond, ◌&&◌, ◌⊎◌, ◌≢◌, nat_lt}
 use Rattle.std.proofs.Math.Path.{refl, sym, ap, fun_ext}
 use Rattle.std.proofs.Common.{subst, ◌∙◌, inl, inr, arith}
+use Rattle.std.proofs.Math.Bool.{and-true, and-false}
 use Rattle.std.proofs.Math.Logic.{⊎_elim}
 use Rattle.std.proofs.Math.Nat.{add-sub_cancel_left}
 use Rattle.std.proofs.lemmas.Bool.{lt-ltb, le-ltb, eq-eqb, ne_eqb, cases_eq, cases_lt, both_ways}
@@ -25,18 +26,10 @@ module _ (f : Fixed) (k : ℕ) (g : Fixed) where
   pub line-outer : (n : ℕ) → n < f.width → (n ≢ k) → pile_line f k g n ≡ f.line n
   unfolding pile_line
   line-outer n h ne = side-outer f.width _ _ n h ∙ rw (ne_eqb n k ne) (and-true (f.line n))
-    where
-      and-true : (b : Bool) → (b && true) ≡ b
-      and-true true = refl
-      and-true false = refl
 
   pub line-k : k < f.width → pile_line f k g k ≡ false
   unfolding pile_line
   line-k h = side-outer f.width _ _ k h ∙ rw (eq-eqb k k refl) (and-false (f.line k))
-    where
-      and-false : (b : Bool) → (b && false) ≡ false
-      and-false true = refl
-      and-false false = refl
 
   pub line-inner : (m : ℕ) → pile_line f k g (f.width + m) ≡ g.line m
   unfolding pile_line
@@ -109,7 +102,3 @@ module _ (f : Fixed) (k : ℕ) (g : Fixed) where
       either : (b : Bool) → cond b (x n) (y (n - f.width)) ≡ false
       either true = no-x n
       either false = no-y (n - f.width)
-
-      and-false : (b : Bool) → (b && false) ≡ false
-      and-false true = refl
-      and-false false = refl

@@ -2,6 +2,7 @@
 use Rattle.std.specs.Prelude.{◌≡◌, ℕ, ◌+◌, ◌<◌, Bool, true, false, cond, ◌&&◌, ◌||◌, List, [], ◌∷◌, ◌==◌, ◌≢◌, nat_eq}
 use Rattle.std.proofs.Math.Path.{refl, sym, ap, ap₂}
 use Rattle.std.proofs.Common.{◌∙◌, arith}
+use Rattle.std.proofs.Math.Bool.{or-false}
 use Rattle.std.proofs.Math.Logic.{⊎_elim}
 use Rattle.std.proofs.lemmas.Bool.{eq-eqb, ne_eqb, cases_eq, or_parts, both_ways}
 use Rattle.controller.specs.Meaning.{Fixed, among, Beats, Climbs}
@@ -100,10 +101,6 @@ module _ (k w : ℕ) where
   pub among-inner : (ins xs : List ℕ) (i : ℕ) → Below w xs → Paired k xs ins → among (w + i) (replaced k w ins xs) ≡ among i ins
   among-inner [] xs i h nay = ap (among (w + i)) (replaced-none xs) ∙ below-not w xs (w + i) h (omega arith)
   among-inner (m ∷ []) xs i h sure = among-line m i xs h ∙ rw sure (sym (or-false (i == m)))
-    where
-      or-false : (b : Bool) → (b || false) ≡ b
-      or-false true = refl
-      or-false false = refl
   among-inner (m ∷ (m' ∷ ms)) xs i h bad = absurd bad
 
 module _ (f : Fixed) (k : ℕ) (g : Fixed) where

@@ -1,5 +1,5 @@
 -- What a value of Cascade tells, by what its parts tell.
-use Rattle.std.specs.Prelude.{◌≡◌, true, cond, Err, Result}
+use Rattle.std.specs.Prelude.{◌≡◌, ℕ, Some, None, Option, Err, Result}
 use Rattle.controller.specs.declared.refusal.Refusal.{Refusal}
 use Rattle.controller.specs.declared.answer.Answer.{Answer}
 use Rattle.controller.specs.declared.telling.Controller.{Ghosts}
@@ -9,22 +9,24 @@ use Rattle.cascade.specs.declared.pile.Cascade.{Cascade}
 use Rattle.cascade.specs.Pile.{pile, void}
 use Rattle.cascade.specs.Tie.{Tied}
 
+-- The pile of parts that fit, or the one with no line.
+abbrev pub hung : Meaning → Option ℕ → Meaning → Meaning
+hung a None b = void
+hung a (Some k) b = pile a k b
+
 module _ {S T : Type 0} (O : Ghosts S) (I : Ghosts T) where
-  abbrev pub fitted : Cascade S T → Meaning
-  fitted p = pile (meaning O p.outer) p.k (meaning I p.inner)
-
   abbrev pub meant : Cascade S T → Meaning
-  meant p = cond p.fit (fitted p) void
+  meant p = hung (meaning O p.outer) p.k (meaning I p.inner)
 
-  -- Parts that fit are sound, and tied.
-  pub record Joined (p : Cascade S T) : Type 0 where
+  -- The parts are sound, and tied at k.
+  pub record Joined (p : Cascade S T) (k : ℕ) : Type 0 where
     pub outer : O.sound p.outer
     pub inner : I.sound p.inner
-    pub tied : Tied (meaning O p.outer) p.k (meaning I p.inner)
+    pub tied : Tied (meaning O p.outer) k (meaning I p.inner)
 
   -- Of parts that do not fit nothing is asked, since no call reaches them.
   abbrev pub Sound : Cascade S T → Type 0
-  Sound p = p.fit ≡ true → Joined p
+  Sound p = (k : ℕ) → p.k ≡ Some k → Joined p k
 
   -- A refused call leaves both parts as they were.
   abbrev pub Unmoved : Result Answer Refusal → Cascade S T → Cascade S T → Type 0

@@ -1,7 +1,7 @@
 // Whether two controllers can be hung together.
 ghost use Rattle.std.specs.Prelude.{◌≡◌};
 ghost use Rattle.controller.specs.Telling.{meaning};
-ghost use Rattle.cascade.specs.Fit.{is_serving, is_small, Checks};
+ghost use Rattle.cascade.specs.Fit.{is_small, Checks};
 
 use controller::{Controller, Refusal};
 
@@ -24,24 +24,13 @@ pub fn check<O: Controller, I: Controller>(
     if !outer.fleeting(k) {
         return Err(Refusal::NotAFleetingLine);
     }
-    if serves(outer) {
-        return Err(Refusal::PartInService);
-    }
-    if serves(inner) {
+    if outer.newest().is_some() || inner.newest().is_some() {
         return Err(Refusal::PartInService);
     }
     if !small(outer, inner) {
         return Err(Refusal::TooLarge);
     }
     Ok(())
-}
-
-// Whether a line is in service.
-fn serves<C: Controller>(part: &mut C) -> bool
-    ensures answer { C.Controller.sound part.old → result ≡ is_serving (meaning C.Controller part.old) }
-    ensures same { part.new ≡ part.old }
-{
-    part.newest().is_some()
 }
 
 // Whether the widths add up, and the spans multiply, to no more than a controller may have.

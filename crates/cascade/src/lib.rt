@@ -2,7 +2,6 @@
 #![tactic(auto)]
 
 mod fit;
-mod inside;
 mod pile;
 
 pub use fit::check;

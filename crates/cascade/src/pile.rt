@@ -1,30 +1,32 @@
-// The pile: an outer controller, the line k of it, and the inner one that hangs from k.
-ghost use Rattle.std.specs.Prelude.{◌≡◌, ◌&&◌};
+// The pile: an outer controller, a line k of it, and the inner one that hangs from k.
+ghost use Rattle.std.specs.Prelude.{◌≡◌, ◌+◌, ◌%◌};
+ghost use Rattle.std.specs.Fn.{FnOnceReturnsAtMut};
 ghost use Rattle.controller.specs.Meaning.{Keeps};
 ghost use Rattle.controller.specs.Rules.{Rises, Falls, Opens, Shuts, Finishes, Untouched};
 ghost use Rattle.controller.specs.Telling.{meaning};
 ghost use Rattle.cascade.specs.Fit.{Makes};
-ghost use Rattle.cascade.specs.Parts.{part_of, shifted, is_atop};
+ghost use Rattle.cascade.specs.Parts.{part_of};
+ghost use Rattle.cascade.specs.Tie.{Tells};
+ghost use Rattle.cascade.specs.Inside.{KeepsBoth, Informs};
 ghost use Rattle.cascade.specs.Told.{meant, Sound, Unmoved};
 ghost use Rattle.cascade.specs.Lawful.{told-lawful};
 
 use crate::fit::check;
-use crate::inside;
 use controller::{Answer, Controller, Refusal};
 
 #[derive(Drop)]
 pub struct Cascade<O, I> {
     outer: O,
-    k: u16,
+    // The line of the outer that the inner hangs from, if the two fit.
+    k: Option<u16>,
     inner: I,
-    fit: bool,
 }
 
-// The part that has a number of the pile; an inner line has a number of its own there.
+// The part that has a number of the pile. A line of the inner, which hangs from k, has a number m of its own there.
+#[derive(Clone, Copy)]
 enum Part {
-    Neither,
     Outer,
-    Inner(u16),
+    Inner { k: u16, m: u16 },
 }
 
 impl<O: Controller, I: Controller> Cascade<O, I> {
@@ -33,31 +35,60 @@ impl<O: Controller, I: Controller> Cascade<O, I> {
         ensures sound { O.Controller.sound outer → I.Controller.sound inner → Sound O.Controller I.Controller result }
         ensures makes { O.Controller.sound outer → I.Controller.sound inner → Makes (meaning O.Controller outer) k (meaning I.Controller inner) (meant O.Controller I.Controller result) }
     {
-        let fit = check(&mut outer, k, &mut inner).is_ok();
-        if fit {
-            inside::hang(&mut outer, k, &inner);
+        if check(&mut outer, k, &mut inner).is_err() {
+            return Cascade {
+                outer,
+                k: None,
+                inner,
+            };
         }
+        let _ = outer.open(k);
+        tell(&mut outer, k, &inner);
         Cascade {
             outer,
-            k,
+            k: Some(k),
             inner,
-            fit,
         }
     }
 
     // The part that has number n.
-    fn part(&self, n: u16) -> Part
-        ensures { Sound O.Controller I.Controller self.now → result ≡ part_of self.now.fit self.now.k (O.Controller.widths self.now.outer) n }
+    fn part(&self, n: u16) -> Result<Part, Refusal>
+        ensures { Sound O.Controller I.Controller self.now → result ≡ part_of self.now.k (O.Controller.widths self.now.outer) n }
     {
-        if !self.fit || n == self.k {
-            return Part::Neither;
+        let k = self.k.ok_or(Refusal::NotALine)?;
+        if n == k {
+            return Err(Refusal::NotALine);
         }
         let width = self.outer.width();
         if n < width {
-            Part::Outer
+            Ok(Part::Outer)
         } else {
-            Part::Inner(n - width)
+            Ok(Part::Inner { k, m: n - width })
         }
+    }
+
+    // The number in the pile of the inner's line m. Wrapping: no sum overflows while the parts fit.
+    fn number(&self, m: u16) -> u16
+        ensures { O.Controller.sound self.now.outer → result ≡ (O.Controller.widths self.now.outer + m) % 65536 }
+    {
+        self.outer.width().wrapping_add(m)
+    }
+
+    // A call of the inner, after which the outer is told of k. What the inner refuses changes nothing, and the outer is told
+    // of nothing.
+    fn inside<F: FnOnce(&mut I) -> Result<Answer, Refusal>>(
+        &mut self,
+        k: u16,
+        call: F,
+    ) -> Result<Answer, Refusal>
+        requires { F.IsAlwaysCallable call }
+        ensures calls { FnOnceReturnsAtMut F.FnOnce call self.old.inner result self.new.inner }
+        ensures informs { Informs O.Controller I.Controller k result self.old.outer self.new.inner self.new.outer }
+        ensures same { self.new.k ≡ self.old.k }
+    {
+        let answer = call(&mut self.inner)?;
+        tell(&mut self.outer, k, &self.inner);
+        Ok(answer)
     }
 }
 
@@ -91,66 +122,59 @@ impl<O: Controller, I: Controller> Controller for Cascade<O, I> {
 
     // Wrapping: of parts that fit neither the sum of the widths nor the product of the spans overflows.
     fn width(&self) -> u16 {
-        if self.fit {
-            self.outer.width().wrapping_add(self.inner.width())
-        } else {
-            0
+        match self.k {
+            Some(_) => self.outer.width().wrapping_add(self.inner.width()),
+            None => 0,
         }
     }
 
     fn span(&self) -> u32 {
-        if self.fit {
-            self.outer.span().wrapping_mul(self.inner.span())
-        } else {
-            1
+        match self.k {
+            Some(_) => self.outer.span().wrapping_mul(self.inner.span()),
+            None => 1,
         }
     }
 
     fn there(&self, n: u16) -> bool {
         match self.part(n) {
-            Part::Neither => false,
-            Part::Outer => self.outer.there(n),
-            Part::Inner(m) => self.inner.there(m),
+            Ok(Part::Outer) => self.outer.there(n),
+            Ok(Part::Inner { m, .. }) => self.inner.there(m),
+            Err(_) => false,
         }
     }
 
     fn fleeting(&self, n: u16) -> bool {
         match self.part(n) {
-            Part::Neither => false,
-            Part::Outer => self.outer.fleeting(n),
-            Part::Inner(m) => self.inner.fleeting(m),
+            Ok(Part::Outer) => self.outer.fleeting(n),
+            Ok(Part::Inner { m, .. }) => self.inner.fleeting(m),
+            Err(_) => false,
         }
     }
 
     fn newest(&mut self) -> Option<u16> {
-        if !self.fit {
-            return None;
+        let k = self.k?;
+        let n = self.outer.newest()?;
+        if n != k {
+            return Some(n);
         }
-        let base = self.outer.width();
-        match self.outer.newest() {
-            Some(n) => {
-                if n != self.k {
-                    return Some(n);
-                }
-                shifted(base, self.inner.newest())
-            }
-            None => None,
-        }
+        let m = self.inner.newest()?;
+        Some(self.number(m))
     }
 
     fn signal(&self) -> bool {
-        self.fit && self.outer.signal()
+        self.k.is_some() && self.outer.signal()
     }
 
+    // A call on one line goes to the part that has it, as the two questions about a line do. One function for the four would
+    // be handed a closure for each part, and its contract would say all of what `part` and `inside` say: that is no plainer.
     fn rise(&mut self, n: u16) -> Result<Answer, Refusal>
         ensures rule { Keeps (Sound O.Controller I.Controller) (meant O.Controller I.Controller) (λ m m'. Rises m n result m') self.old self.new }
         ensures parts { Unmoved O.Controller I.Controller result self.old self.new }
         ensures refused { Untouched result self.old self.new }
     {
-        match self.part(n) {
-            Part::Neither => Err(Refusal::NotALine),
+        match self.part(n)? {
             Part::Outer => self.outer.rise(n),
-            Part::Inner(m) => inside::rise(&mut self.outer, self.k, &mut self.inner, m),
+            Part::Inner { k, m } => self.inside(k, |inner| inner.rise(m)),
         }
     }
 
@@ -159,10 +183,9 @@ impl<O: Controller, I: Controller> Controller for Cascade<O, I> {
         ensures parts { Unmoved O.Controller I.Controller result self.old self.new }
         ensures refused { Untouched result self.old self.new }
     {
-        match self.part(n) {
-            Part::Neither => Err(Refusal::NotALine),
+        match self.part(n)? {
             Part::Outer => self.outer.fall(n),
-            Part::Inner(m) => inside::fall(&mut self.outer, self.k, &mut self.inner, m),
+            Part::Inner { k, m } => self.inside(k, |inner| inner.fall(m)),
         }
     }
 
@@ -171,10 +194,9 @@ impl<O: Controller, I: Controller> Controller for Cascade<O, I> {
         ensures parts { Unmoved O.Controller I.Controller result self.old self.new }
         ensures refused { Untouched result self.old self.new }
     {
-        match self.part(n) {
-            Part::Neither => Err(Refusal::NotALine),
+        match self.part(n)? {
             Part::Outer => self.outer.open(n),
-            Part::Inner(m) => inside::open(&mut self.outer, self.k, &mut self.inner, m),
+            Part::Inner { k, m } => self.inside(k, |inner| inner.open(m)),
         }
     }
 
@@ -183,68 +205,55 @@ impl<O: Controller, I: Controller> Controller for Cascade<O, I> {
         ensures parts { Unmoved O.Controller I.Controller result self.old self.new }
         ensures refused { Untouched result self.old self.new }
     {
-        match self.part(n) {
-            Part::Neither => Err(Refusal::NotALine),
+        match self.part(n)? {
             Part::Outer => self.outer.shut(n),
-            Part::Inner(m) => inside::shut(&mut self.outer, self.k, &mut self.inner, m),
+            Part::Inner { k, m } => self.inside(k, |inner| inner.shut(m)),
         }
     }
 
     // If the outer takes k, the inner has a ready line.
     fn take(&mut self) -> Option<u16> {
-        if !self.fit {
-            return None;
+        let k = self.k?;
+        let n = self.outer.take()?;
+        if n != k {
+            return Some(n);
         }
-        let base = self.outer.width();
-        match self.outer.take() {
-            Some(n) => {
-                if n != self.k {
-                    return Some(n);
-                }
-                shifted(base, inside::take(&mut self.outer, self.k, &mut self.inner))
-            }
-            None => None,
-        }
+        let taken = self.inner.take();
+        tell(&mut self.outer, k, &self.inner);
+        let line = taken?;
+        Some(self.number(line))
     }
 
-    // An inner line is the newest only while k is the outer's newest.
+    // An inner line is the newest only while k is the outer's newest; it is finished inside, and then k outside.
     fn finish(&mut self, n: u16) -> Result<Answer, Refusal>
         ensures rule { Keeps (Sound O.Controller I.Controller) (meant O.Controller I.Controller) (λ m m'. Finishes m n result m') self.old self.new }
         ensures parts { Unmoved O.Controller I.Controller result self.old self.new }
         ensures refused { Untouched result self.old self.new }
     {
-        match self.part(n) {
-            Part::Neither => Err(Refusal::NotALine),
+        match self.part(n)? {
             Part::Outer => self.outer.finish(n),
-            Part::Inner(m) => {
+            Part::Inner { k, m } => {
                 if !self.inner.there(m) {
                     return Err(Refusal::NotALine);
                 }
-                if !is_newest(self.outer.newest(), self.k) {
+                if self.outer.newest() != Some(k) {
                     return Err(Refusal::NotNewest);
                 }
-                inside::finish(&mut self.outer, self.k, &mut self.inner, m)
+                let answer = self.inside(k, |inner| inner.finish(m))?;
+                let _ = self.outer.finish(k);
+                Ok(answer)
             }
         }
     }
 }
 
-// The number in the pile of an inner line, if there is one: no sum overflows while the parts fit.
-fn shifted(base: u16, line: Option<u16>) -> Option<u16>
-    ensures { result ≡ shifted base line }
+// Tells the outer that k rises if the inner signals, else that k falls.
+fn tell<O: Controller, I: Controller>(outer: &mut O, k: u16, inner: &I)
+    ensures { KeepsBoth O.Controller I.Controller (λ a b a' _. Tells a k b a') outer.old inner.now outer.new inner.now }
 {
-    match line {
-        Some(m) => Some(base.wrapping_add(m)),
-        None => None,
-    }
-}
-
-// Whether line k is what was told to be the newest.
-fn is_newest(newest: Option<u16>, k: u16) -> bool
-    ensures { result ≡ is_atop newest k }
-{
-    match newest {
-        Some(n) => k == n,
-        None => false,
-    }
+    let _ = if inner.signal() {
+        outer.rise(k)
+    } else {
+        outer.fall(k)
+    };
 }

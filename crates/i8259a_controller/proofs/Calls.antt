@@ -2,6 +2,7 @@
 use Rattle.std.specs.Prelude.{◌≡◌, ℕ, ◌<◌, Bool, true, false, cond, not, ◌&&◌, ◌||◌, ◌≢◌, Some, None, Ok, Err, Option, ◌==◌, refl}
 use Rattle.std.proofs.Common.{sym, ap, ◌∙◌, subst, ⊎_elim, arith}
 use Rattle.std.proofs.lemmas.Bool.{cases_eq, cases_lt, and_from, and_parts, and_left, and_right, not_from_false, not_from_true, lt-ltb, le-ltb, both_ways, cond-true}
+use mathlib.Core.Bool.{and-true, and-false}
 use Rattle.controller.specs.declared.refusal.Refusal.TheVariants.{NotALine, InService, NotNewest}
 use Rattle.controller.specs.declared.answer.Answer.{Answer}
 use Rattle.controller.specs.declared.answer.Answer.TheVariants.{Accepted, Withdrawn, Noted, Done}
@@ -11,19 +12,20 @@ use Rattle.controller.specs.Rules.{so, otherwise, marked, onward, tops, Rises, F
 use Rattle.controller.proofs.Marks.{marks-set, state-same}
 use Rattle.i8259a.specs.declared.chip.I8259a.{I8259a}
 use Rattle.i8259a.specs.Bits.{bit, with, without, lowest}
-use Rattle.i8259a.specs.Chip.{is_line, line_answer, risen, fallen, with_irr, with_isr, with_imr}
+use Rattle.i8259a.specs.Chip.{is_line, risen, fallen, with_irr, with_isr, with_imr}
 use Rattle.i8259a.specs.Signal.{SetUp}
 use Rattle.i8259a.proofs.Sets.{bit-without}
 use Rattle.i8259a_controller.specs.Told.{has, levels_from, meant, Sound}
-use Rattle.i8259a_controller.specs.Steps.{rise_answer, fall_answer, finish_answer, is_atop, TakesLevel}
+use Rattle.i8259a_controller.specs.declared.steps.Line.{Line}
+use Rattle.i8259a_controller.specs.Steps.{line_of, rise_answer, fall_answer, finish_answer, is_atop, TakesLevel}
 use Rattle.i8259a_controller.specs.Levels.{with_byte, without-byte, has_in, with-here, with-other, without-here, without_other, with-marks, without-marks, members, tops-atop, stack-with, stack-without}
 use Rattle.i8259a_controller.proofs.Signals.{first-ready, none-ready}
 
--- A rise or a fall that the chip carried out was of a line.
-pub line_of : (n : ℕ) → line_answer n ≡ Ok tt → n < 8
-line_of n e =
+-- What was not refused as no line is of a line.
+pub of_a_line : {A : Type 0} (n : ℕ) (a b : A) → asks (is_line n) NotALine (Ok a) ≡ Ok b → n < 8
+of_a_line {A} n a b e =
     ⊎_elim (λ lt. lt)
-    (λ le. let refused : line_answer n ≡ Err NotALine = ap (λ b. asks b NotALine (Ok tt)) (le-ltb n 8 le) in
+    (λ le. let refused : asks (is_line n) NotALine (Ok a) ≡ Err NotALine = ap (λ l. asks l NotALine (Ok a)) (le-ltb n 8 le) in
     let z : ◌≡◌ {A = ℕ} 0 1 = cc in absurd (omega arith))
     (cases_lt n 8)
 
@@ -47,14 +49,6 @@ rise-waits true true = refl
 rise-waits true false = refl
 rise-waits false true = refl
 rise-waits false false = refl
-
-and-false : (b : Bool) → (b && false) ≡ false
-and-false true = refl
-and-false false = refl
-
-and-true : (b : Bool) → (b && true) ≡ b
-and-true true = refl
-and-true false = refl
 
 module _ (c : I8259a) (n : ℕ) (sound : Sound c) (level : n < 8) where
   line : is_line n ≡ true
@@ -83,10 +77,10 @@ module _ (c : I8259a) (n : ℕ) (sound : Sound c) (level : n < 8) where
         (λ j ne. (with-other c.irr n j level ne, refl))) refl),
   )
 
-  pub rises : (d : I8259a) (h s : Bool) (a : Answer) → d ≡ risen c n → h ≡ has c.irr n → s ≡ has c.isr n → a ≡ rise_answer h s → Sound d × Rises (meant c) n (Ok a) (meant d)
-  rises d h s a is eh es ea =
+  pub rises : (d : I8259a) (l : Line) (a : Answer) → d ≡ risen c n → l ≡ line_of c n → a ≡ rise_answer l.high l.serving → Sound d × Rises (meant c) n (Ok a) (meant d)
+  rises d l a is el ea =
       let is' : d ≡ with_irr c (with c.irr n) = is ∙ cond-true (is_line n) _ _ line in
-      let ea' : a ≡ rise_answer (has c.irr n) (has c.isr n) = ea ∙ ap (λ x. rise_answer x s) eh ∙ ap (rise_answer (has c.irr n)) es in
+      let ea' : a ≡ rise_answer (has c.irr n) (has c.isr n) = ea ∙ ap (λ (x : Line). rise_answer x.high x.serving) el in
       subst (λ (x : I8259a). Sound x × Rises (meant c) n (Ok a) (meant x)) (sym is')
       (high-sound, subst (λ x. Rises (meant c) n (Ok x) (meant (with_irr c (with c.irr n)))) (sym ea') rises-at)
 
@@ -109,10 +103,10 @@ module _ (c : I8259a) (n : ℕ) (sound : Sound c) (level : n < 8) where
         (λ j ne. (without_other c.irr n j level ne, refl))) refl),
   )
 
-  pub falls : (d : I8259a) (h s : Bool) (a : Answer) → d ≡ fallen c n → h ≡ has c.irr n → s ≡ has c.isr n → a ≡ fall_answer h s → Sound d × Falls (meant c) n (Ok a) (meant d)
-  falls d h s a is eh es ea =
+  pub falls : (d : I8259a) (l : Line) (a : Answer) → d ≡ fallen c n → l ≡ line_of c n → a ≡ fall_answer l.high l.serving → Sound d × Falls (meant c) n (Ok a) (meant d)
+  falls d l a is el ea =
       let is' : d ≡ with_irr c (without c.irr n) = is ∙ cond-true (is_line n) _ _ line in
-      let ea' : a ≡ fall_answer (has c.irr n) (has c.isr n) = ea ∙ ap (λ x. fall_answer x s) eh ∙ ap (fall_answer (has c.irr n)) es in
+      let ea' : a ≡ fall_answer (has c.irr n) (has c.isr n) = ea ∙ ap (λ (x : Line). fall_answer x.high x.serving) el in
       subst (λ (x : I8259a). Sound x × Falls (meant c) n (Ok a) (meant x)) (sym is')
       (low-sound, subst (λ x. Falls (meant c) n (Ok x) (meant (with_irr c (without c.irr n)))) (sym ea') falls_at)
 
@@ -179,13 +173,13 @@ module _ (c : I8259a) (n : ℕ) (sound : Sound c) (level : n < 8) where
     served_open = λ m lt on. sound.served_open m lt (and_parts (bit c.isr m) (not (m == n)) (sym (bit-without c.isr n m level lt) ∙ on)).0;
   }
 
-  pub finishes : (d : I8259a) (h : Bool) (a : Answer) → is_atop (lowest c.isr) n ≡ true → d ≡ with_isr c (without c.isr n) → h ≡ has c.irr n → a ≡ finish_answer h → Sound d × Finishes (meant c) n (Ok a) (meant d)
-  finishes d h a top is eh ea =
+  pub finishes : (d : I8259a) (a : Answer) → is_atop (lowest c.isr) n ≡ true → d ≡ with_isr c (without c.isr n) → a ≡ finish_answer (has c.irr n) → Sound d × Finishes (meant c) n (Ok a) (meant d)
+  finishes d a top is ea =
       let top' : tops (levels_from 8 0 c.isr) n ≡ true = tops-atop c.isr n ∙ top in
       subst (λ (x : I8259a). Sound x × Finishes (meant c) n (Ok a) (meant x)) (sym is) (
         end-sound,
         so line (so top' (
-          ap Ok (ea ∙ ap finish_answer eh),
+          ap Ok ea,
           ap (onward (meant c)) (state-same refl refl
               (waits-when (has c.irr) (has c.isr) n (has c.irr) (has (without c.isr n)) (has c.irr n)
               (ap (λ x. has c.irr n && not x) (without-here c.isr n level) ∙ and-true (has c.irr n))

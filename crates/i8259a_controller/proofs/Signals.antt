@@ -1,7 +1,7 @@
 -- What is urgent at the chip is ready at the controller.
-use Rattle.std.specs.Prelude.{◌≡◌, ℕ, ◌<◌, Bool, true, false, not, ◌&&◌, List, [], ◌∷◌, Some, None, Ok, Option, ◌==◌}
+use Rattle.std.specs.Prelude.{◌≡◌, ℕ, ◌<◌, Bool, true, false, cond, not, ◌&&◌, ◌||◌, List, [], ◌∷◌, Some, None, Ok, Option, ◌==◌}
 use Rattle.std.proofs.Common.{sym, ap, ◌∙◌, subst, inl, inr, ⊎_elim, arith}
-use Rattle.std.proofs.lemmas.Bool.{cases_Bool, and_from, and_parts, not-true, not_from_false, lt-ltb, ltb-true, both_ways, eqb-true, or_parts, not-false}
+use Rattle.std.proofs.lemmas.Bool.{cases_Bool, and_from, and_parts, not-true, not_from_false, lt-ltb, ltb-true, both_ways, eqb-true, eq-eqb, cond_both, or_parts, not-false}
 use Rattle.controller.specs.Meaning.{among, Beats, Ready, FirstReady, NoneReady}
 use Rattle.controller.specs.Rules as rules
 use Rattle.controller.proofs.Stacks.{beats-all, among-head}
@@ -69,7 +69,7 @@ module _ (c : I8259a) (sound : Sound c) where
   signals false s = none-ready (s sound.set_up)
 
 -- A level 7 that is not believed is spurious: nothing was urgent and nothing changed.
-pub spurious : (c d : I8259a) (n : ℕ) (before after : Bool) → before ≡ shows c Isr 7 → after ≡ shows d Isr 7 → Acknowledges c (Ok n) d → believed n before after ≡ false → TakesLevel c None d
+spurious : (c d : I8259a) (n : ℕ) (before after : Bool) → before ≡ shows c Isr 7 → after ≡ shows d Isr 7 → Acknowledges c (Ok n) d → believed n before after ≡ false → TakesLevel c None d
 spurious c d n before after was is a doubt = elim a.1 [
   | inl h ↦
       let seven = not-false _ (or_parts (not (n == 7)) (not before && after) doubt).0 in
@@ -83,3 +83,19 @@ spurious c d n before after was is a doubt = elim a.1 [
   where
     lt-self : 7 < 8
     lt-self = omega arith
+
+-- A level that is believed is urgent.
+genuine : (c d : I8259a) (n : ℕ) (before after : Bool) → before ≡ shows c Isr 7 → after ≡ shows d Isr 7 → Acknowledges c (Ok n) d → believed n before after ≡ true → TakesLevel c (Some n) d
+genuine c d n before after was is a sure = elim a.1 [
+  | inl h ↦ h
+  | inr h ↦
+      let seven : not (n == 7) ≡ false = ap not (eq-eqb n 7 h.1) in
+      let set : (not before && after) ≡ true = sym (ap (λ b. b || (not before && after)) seven) ∙ sure in
+      let both = and_parts (not before) after set in
+      let same : after ≡ before = is ∙ ap (λ (z : I8259a). shows z Isr 7) h.2 ∙ sym was in
+      absurd (both_ways _ (not-true before both.0) (sym same ∙ both.1))
+]
+
+pub taking : (c d : I8259a) (n : ℕ) (before after : Bool) → before ≡ shows c Isr 7 → after ≡ shows d Isr 7 → Acknowledges c (Ok n) d → TakesLevel c (cond (believed n before after) (Some n) None) d
+taking c d n before after was is a =
+    cond_both (believed n before after) (Some n) None (λ r. TakesLevel c r d) (genuine c d n before after was is a) (spurious c d n before after was is a)

@@ -2,7 +2,8 @@
 use Rattle.std.specs.Prelude.{◌≡◌, ℕ, zero, suc, ◌+◌, ◌-◌, ◌^◌, ◌<◌, ◌≤◌, Bool, true, false, cond, not, ◌&&◌, ◌||◌, ◌≢◌, ◌⊎◌, List, [], ◌∷◌, Some, ◌==◌, refl}
 use Rattle.std.proofs.Common.{sym, ap, ◌∙◌, inl, inr, ⊎_elim, arith}
 use Rattle.std.proofs.lemmas.Nat.{or_lt, and_le_l, pow_below}
-use Rattle.std.proofs.lemmas.Bool.{cases_eq, cases_lt, cond_both, eq-eqb, ne_eqb, lt-ltb, le-ltb, and_left}
+use Rattle.std.proofs.lemmas.Bool.{cases_eq, cases_lt, cond_both, eq-eqb, ne_eqb, lt-ltb, le-ltb, and_left, and_right, or_right}
+use mathlib.Core.Bool.{and-true, or-false, or_comm}
 use Rattle.controller.specs.Meaning.{among, Beats, Climbs}
 use Rattle.controller.specs.Rules.{marked, newest, older, tops}
 use Rattle.controller.proofs.Marks.{marks-set}
@@ -27,14 +28,6 @@ has-past x j le = and_left (is_line j) (bit x j) (le-ltb j 8 le)
 pub has_in : (x j : ℕ) → j < 8 → has x j ≡ bit x j
 has_in x j lt = ap (λ b. b && bit x j) (lt-ltb j 8 lt)
 
-and-true : (b : Bool) → (b && true) ≡ b
-and-true true = refl
-and-true false = refl
-
-or-false : (b : Bool) → (b || false) ≡ b
-or-false true = refl
-or-false false = refl
-
 pub has-with : (x n j : ℕ) → n < 8 → has (with x n) j ≡ (has x j || j == n)
 has-with x n j h =
     ⊎_elim
@@ -51,21 +44,13 @@ has-without x n j h =
 
 -- At the level itself, and at any other.
 pub with-here : (x n : ℕ) → n < 8 → has (with x n) n ≡ true
-with-here x n h = has-with x n n h ∙ at (has x n) (n == n) (eq-eqb n n refl)
-  where
-    at : (a b : Bool) → b ≡ true → (a || b) ≡ true
-    at true b e = refl
-    at false b e = e
+with-here x n h = has-with x n n h ∙ or_right (has x n) _ (eq-eqb n n refl)
 
 pub with-other : (x n j : ℕ) → n < 8 → j ≢ n → has (with x n) j ≡ has x j
 with-other x n j h ne = has-with x n j h ∙ ap (λ b. has x j || b) (ne_eqb j n ne) ∙ or-false (has x j)
 
 pub without-here : (x n : ℕ) → n < 8 → has (without x n) n ≡ false
-without-here x n h = has-without x n n h ∙ at (has x n) (n == n) (eq-eqb n n refl)
-  where
-    at : (a b : Bool) → b ≡ true → (a && not b) ≡ false
-    at true b e = ap not e
-    at false b e = refl
+without-here x n h = has-without x n n h ∙ and_right (has x n) _ (ap not (eq-eqb n n refl))
 
 pub without_other : (x n j : ℕ) → n < 8 → j ≢ n → has (without x n) j ≡ has x j
 without_other x n j h ne = has-without x n j h ∙ ap (λ b. has x j && not b) (ne_eqb j n ne) ∙ and-true (has x j)
@@ -151,17 +136,11 @@ tops-atop x n = at (levels_from 8 0 x) ∙ ap (λ o. is_atop o n) (newest-lowest
 is-stack : (x : ℕ) (xs : List ℕ) → Climbs eight xs → ((n : ℕ) → among n xs ≡ has x n) → levels_from 8 0 x ≡ xs
 is-stack x xs up same = one-order eight (levels_from 8 0 x) xs (climbs x) up (λ n. members x n ∙ sym (same n))
 
-or_swap : (a b : Bool) → (a || b) ≡ (b || a)
-or_swap true true = refl
-or_swap true false = refl
-or_swap false true = refl
-or_swap false false = refl
-
 -- One level on top.
 pub stack-with : (x n : ℕ) → n < 8 → Beats eight n (levels_from 8 0 x) → levels_from 8 0 (with x n) ≡ n ∷ levels_from 8 0 x
 stack-with x n h beats =
     is-stack (with x n) (n ∷ levels_from 8 0 x) (beats, climbs x)
-    (λ j. ap (λ b. (j == n) || b) (members x j) ∙ or_swap (j == n) (has x j) ∙ sym (has-with x n j h))
+    (λ j. ap (λ b. (j == n) || b) (members x j) ∙ or_comm (j == n) (has x j) ∙ sym (has-with x n j h))
 
 -- The top taken off.
 pub stack-without : (x n : ℕ) → n < 8 → tops (levels_from 8 0 x) n ≡ true → levels_from 8 0 (without x n) ≡ older (levels_from 8 0 x)

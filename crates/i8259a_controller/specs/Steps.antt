@@ -6,7 +6,12 @@ use Rattle.i8259a.specs.declared.chip.I8259a.{I8259a}
 use Rattle.i8259a.specs.Bits.{with, without, lowest}
 use Rattle.i8259a.specs.Chip.{is_line, with_isr, with_imr}
 use Rattle.i8259a.specs.Signal.{First, NoneUrgent}
+use Rattle.i8259a_controller.specs.declared.steps.Line.{Line}
 use Rattle.i8259a_controller.specs.Told.{has}
+
+-- The marks of line n, as its chip shows them.
+abbrev pub line_of : I8259a → ℕ → Line
+line_of c n = record { high = has c.irr n; serving = has c.isr n }
 
 abbrev pub rise_answer : Bool → Bool → Answer
 rise_answer high serving = cond (high || serving) Noted Accepted

@@ -1,9 +1,9 @@
 // What the controller does with its chip, one register at a time.
-ghost use Rattle.std.specs.Prelude.{◌≡◌, ◌<◌, ◌≤◌};
+ghost use Rattle.std.specs.Prelude.{◌≡◌, ◌<◌, cond};
 ghost use Rattle.i8259a.specs.Bits.{with, without, lowest};
 ghost use Rattle.i8259a.specs.Chip.{with_imr, with_isr};
 ghost use Rattle.i8259a.specs.Signal.{SetUp};
-ghost use Rattle.i8259a_controller.specs.Steps.{rise_answer, fall_answer, finish_answer, believed, is_atop, TakesLevel};
+ghost use Rattle.i8259a_controller.specs.Steps.{line_of, rise_answer, fall_answer, believed, TakesLevel};
 
 use controller::Answer;
 use i8259a::{I8259a, Register, lowest};
@@ -11,32 +11,60 @@ use i8259a::{I8259a, Register, lowest};
 // How many levels a chip has.
 pub(crate) const LEVELS: u16 = 8;
 
-// Takes the bit of level n out of the mask.
-pub(crate) fn unmask(chip: &mut I8259a, n: u16)
-    requires { n < 8 }
-    ensures { SetUp chip.old → chip.new ≡ with_imr chip.old (without chip.old.imr n) }
-{
-    if let Ok(mask) = chip.read(1) {
-        let _ = chip.write(1, mask & !(1 << n));
+// The marks of a line, as its chip shows them.
+#[derive(Clone, Copy)]
+pub(crate) struct Line {
+    pub(crate) high: bool,
+    pub(crate) serving: bool,
+}
+
+impl Line {
+    pub(crate) fn shown(chip: &mut I8259a, n: u16) -> Line
+        ensures marks { result ≡ line_of chip.old n }
+        ensures after { chip.new ≡ chip.old }
+    {
+        Line {
+            high: chip.shows(Register::Irr, n),
+            serving: chip.shows(Register::Isr, n),
+        }
+    }
+
+    // The answer to a rise: a line that is neither high nor in service is accepted.
+    pub(crate) fn rise_answer(self) -> Answer
+        ensures { result ≡ rise_answer self.high self.serving }
+    {
+        Answer::accepted_if(!self.high && !self.serving)
+    }
+
+    // The answer to a fall: a line that waited is withdrawn.
+    pub(crate) fn fall_answer(self) -> Answer
+        ensures { result ≡ fall_answer self.high self.serving }
+    {
+        if self.high && !self.serving {
+            Answer::Withdrawn
+        } else {
+            Answer::Noted
+        }
     }
 }
 
-// Puts the bit of level n into the mask.
-pub(crate) fn mask(chip: &mut I8259a, n: u16)
-    requires { n < 8 }
-    ensures { SetUp chip.old → chip.new ≡ with_imr chip.old (with chip.old.imr n) }
+// Puts the bit of a level into the mask, or takes it out.
+pub(crate) fn set_masked(chip: &mut I8259a, level: u8, masked: bool)
+    requires { level < 8 }
+    ensures { SetUp chip.old → chip.new ≡ with_imr chip.old (cond masked (with chip.old.imr level) (without chip.old.imr level)) }
 {
     if let Ok(mask) = chip.read(1) {
-        let _ = chip.write(1, mask | 1 << n);
+        let bit = 1 << level;
+        let _ = chip.write(1, if masked { mask | bit } else { mask & !bit });
     }
 }
 
-// The specific end of level n.
-pub(crate) fn end(chip: &mut I8259a, n: u16)
-    requires { n < 8 }
-    ensures { SetUp chip.old → chip.new ≡ with_isr chip.old (without chip.old.isr n) }
+// The specific end of a level.
+pub(crate) fn end(chip: &mut I8259a, level: u8)
+    requires { level < 8 }
+    ensures { SetUp chip.old → chip.new ≡ with_isr chip.old (without chip.old.isr level) }
 {
-    let _ = chip.write(0, 0x60 + n as u8);
+    let _ = chip.write(0, 0x60 + level);
 }
 
 // The lowest level in service, which is the newest.
@@ -47,30 +75,14 @@ pub(crate) fn newest(chip: &mut I8259a) -> Option<u8>
     lowest(chip.look(Register::Isr))
 }
 
-// Whether n is the newest level.
-pub(crate) fn is_newest(newest: Option<u8>, n: u16) -> bool
-    ensures { result ≡ is_atop newest n }
-{
-    match newest {
-        Some(level) => n == u16::from(level),
-        None => false,
-    }
-}
-
 // Acknowledges, and tells a level that went into service from a spurious level 7.
 pub(crate) fn take(chip: &mut I8259a) -> Option<u16>
     ensures { SetUp chip.old → TakesLevel chip.old result chip.new }
 {
     let before = chip.shows(Register::Isr, 7);
-    let Ok(level) = chip.acknowledge() else {
-        return None;
-    };
+    let level = chip.acknowledge().ok()?;
     let after = chip.shows(Register::Isr, 7);
-    if believed(level, before, after) {
-        Some(u16::from(level))
-    } else {
-        None
-    }
+    believed(level, before, after).then_some(u16::from(level))
 }
 
 // Level 7 is believed only if its in-service bit was clear before the acknowledge and is set after it.
@@ -78,37 +90,4 @@ fn believed(level: u8, before: bool, after: bool) -> bool
     ensures { result ≡ believed level before after }
 {
     level != 7 || (!before && after)
-}
-
-// The answer to a rise: a line that is neither high nor in service is accepted.
-pub(crate) fn rise_answer(high: bool, serving: bool) -> Answer
-    ensures { result ≡ rise_answer high serving }
-{
-    if high || serving {
-        Answer::Noted
-    } else {
-        Answer::Accepted
-    }
-}
-
-// The answer to a fall: a line that waited is withdrawn.
-pub(crate) fn fall_answer(high: bool, serving: bool) -> Answer
-    ensures { result ≡ fall_answer high serving }
-{
-    if high && !serving {
-        Answer::Withdrawn
-    } else {
-        Answer::Noted
-    }
-}
-
-// The answer to a finish: a line that is still high is accepted again.
-pub(crate) fn finish_answer(high: bool) -> Answer
-    ensures { result ≡ finish_answer high }
-{
-    if high {
-        Answer::Accepted
-    } else {
-        Answer::Noted
-    }
 }

@@ -9,8 +9,9 @@ ghost use Rattle.i8259a_controller.specs.Steps.{opened_chip, shut_chip, finished
 ghost use Rattle.i8259a_controller.specs.Lawful;
 
 use crate::steps;
+use crate::steps::Line;
 use controller::{Answer, Controller, Refusal};
-use i8259a::{I8259a, Register, set_up};
+use i8259a::{I8259a, Register, level_of, set_up};
 
 #[derive(Drop)]
 pub struct I8259aController {
@@ -75,25 +76,22 @@ impl Controller for I8259aController {
     }
 
     fn newest(&mut self) -> Option<u16> {
-        match steps::newest(&mut self.chip) {
-            Some(level) => Some(u16::from(level)),
-            None => None,
-        }
+        steps::newest(&mut self.chip).map(u16::from)
     }
 
     fn signal(&self) -> bool {
         self.chip.signal()
     }
 
+    // A call's own clauses stand in place of the trait's: so each repeats the trait's two before the one of its chip.
     fn rise(&mut self, n: u16) -> Result<Answer, Refusal>
         ensures rule { Keeps Sound meant (λ m m'. Rises m n result m') self.old.chip self.new.chip }
         ensures refused { Untouched result self.old self.new }
         ensures chip { self.new.chip ≡ risen self.old.chip n }
     {
-        let high = self.chip.shows(Register::Irr, n);
-        let serving = self.chip.shows(Register::Isr, n);
+        let line = Line::shown(&mut self.chip, n);
         self.chip.rise(n)?;
-        Ok(steps::rise_answer(high, serving))
+        Ok(line.rise_answer())
     }
 
     fn fall(&mut self, n: u16) -> Result<Answer, Refusal>
@@ -101,10 +99,9 @@ impl Controller for I8259aController {
         ensures refused { Untouched result self.old self.new }
         ensures chip { self.new.chip ≡ fallen self.old.chip n }
     {
-        let high = self.chip.shows(Register::Irr, n);
-        let serving = self.chip.shows(Register::Isr, n);
+        let line = Line::shown(&mut self.chip, n);
         self.chip.fall(n)?;
-        Ok(steps::fall_answer(high, serving))
+        Ok(line.fall_answer())
     }
 
     fn open(&mut self, n: u16) -> Result<Answer, Refusal>
@@ -112,10 +109,8 @@ impl Controller for I8259aController {
         ensures refused { Untouched result self.old self.new }
         ensures chip { Sound self.old.chip → self.new.chip ≡ opened_chip self.old.chip n }
     {
-        if n > 7 {
-            return Err(Refusal::NotALine);
-        }
-        steps::unmask(&mut self.chip, n);
+        let level = level_of(n)?;
+        steps::set_masked(&mut self.chip, level, false);
         Ok(Answer::Done)
     }
 
@@ -124,13 +119,11 @@ impl Controller for I8259aController {
         ensures refused { Untouched result self.old self.new }
         ensures chip { Sound self.old.chip → self.new.chip ≡ shut_chip self.old.chip n }
     {
-        if n > 7 {
-            return Err(Refusal::NotALine);
-        }
+        let level = level_of(n)?;
         if self.chip.shows(Register::Isr, n) {
             return Err(Refusal::InService);
         }
-        steps::mask(&mut self.chip, n);
+        steps::set_masked(&mut self.chip, level, true);
         Ok(Answer::Done)
     }
 
@@ -146,15 +139,12 @@ impl Controller for I8259aController {
         ensures refused { Untouched result self.old self.new }
         ensures chip { Sound self.old.chip → self.new.chip ≡ finished_chip self.old.chip n }
     {
-        if n > 7 {
-            return Err(Refusal::NotALine);
-        }
-        let newest = steps::newest(&mut self.chip);
-        if !steps::is_newest(newest, n) {
+        let level = level_of(n)?;
+        if steps::newest(&mut self.chip) != Some(level) {
             return Err(Refusal::NotNewest);
         }
-        let high = self.chip.shows(Register::Irr, n);
-        steps::end(&mut self.chip, n);
-        Ok(steps::finish_answer(high))
+        let line = Line::shown(&mut self.chip, n);
+        steps::end(&mut self.chip, level);
+        Ok(Answer::accepted_if(line.high))
     }
 }

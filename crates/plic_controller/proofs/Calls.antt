@@ -1,11 +1,13 @@
 -- Each call does what the rules say, and leaves the chip that `After` names.
-use Rattle.std.proofs.Common.{◌≡◌, ℕ, ◌%◌, ◌<◌, Bool, true, false, cond, not, ◌&&◌, ◌||◌, ltb, List, [], ◌∷◌, Some, Ok, Err, Result, sym, refl, ap, ◌∙◌, subst, ⊎_elim, arith}
-use Rattle.std.proofs.lemmas.Bool.{cases_lt, both_ways, false≢true, lt-ltb, cond-true}
+use Rattle.std.proofs.Common.{◌≡◌, ℕ, ◌%◌, ◌<◌, Bool, true, false, cond, not, ◌&&◌, ◌||◌, ltb, List, [], ◌∷◌, None, Some, Ok, Err, Option, Result, sym, refl, ap, ◌∙◌, subst, arith}
+use Rattle.std.proofs.Math.Bool.{and-true}
+use Rattle.std.proofs.lemmas.Bool.{both_ways, false≢true, lt-ltb, cond-true}
 use Rattle.controller.specs.declared.answer.Answer.{Answer}
 use Rattle.controller.specs.declared.answer.Answer.TheVariants.{Accepted, Withdrawn, Noted, Done}
 use Rattle.controller.specs.declared.refusal.Refusal.{Refusal}
+use Rattle.controller.specs.declared.refusal.Refusal.TheVariants.{InService}
 use Rattle.controller.specs.Meaning.{among}
-use Rattle.controller.specs.Rules.{so, otherwise, marked, onward, tops, newest, Untouched, Rises, Falls, Opens, Shuts, Takes, Finishes}
+use Rattle.controller.specs.Rules.{so, otherwise, marked, onward, tops, newest, Rises, Falls, Opens, Shuts, Takes, Finishes}
 use Rattle.controller.proofs.Marks.{marked-same, state-same}
 use Rattle.controller.proofs.Stacks.{tops-among, among-head}
 use Rattle.plic.specs.declared.chip.Plic.{Plic}
@@ -14,13 +16,13 @@ use Rattle.plic.specs.declared.gateway.Request.TheVariants.{Idle, Pending, Claim
 use Rattle.plic.specs.declared.gateway.Gateway.{Gateway}
 use Rattle.plic.specs.Gateways.{is_pending, is_claimed, raised, risen, fallen, claimed, completed, with_enabled}
 use Rattle.plic.specs.Chip as chip
-use Rattle.plic.specs.Chip.{Source, gate, gateway_of, with_gate, with_threshold, Above, First, Completes}
+use Rattle.plic.specs.Chip.{Source, gate, with_gate, with_threshold, Above, First, Completes}
 use Rattle.plic.specs.Laws.{ChipLaws}
 use Rattle.plic.proofs.ChipLaws.{chip-laws}
 use Rattle.plic_controller.specs.Told.{stack_of, meant, level_of}
 use Rattle.plic_controller.specs.Sound.{Fair, Settled, Sound}
-use Rattle.plic_controller.specs.Steps.{SetsEnabled, ClaimsSignalled, ShutsIdle, Follows, rise_answer, finish_answer}
-use Rattle.plic_controller.specs.After.{after, risen_at, fallen_at, enabled_at, taken_at, levelled, finished_at}
+use Rattle.plic_controller.specs.Steps.{SetsEnabled, ClaimsFirst, ClaimsSignalled, Lined, Follows}
+use Rattle.plic_controller.specs.After.{risen_at, fallen_at, enabled_at, taken_at, levelled, finished_at}
 use Rattle.plic_controller.proofs.Tables.{gate-shown, gate-with, put-here}
 use Rattle.plic_controller.specs.Claimed.{members, claimed-line}
 use Rattle.plic_controller.proofs.Changes.{quiet-sound, quiet_told, more-sound, more-told, settled-less, less-sound, less-told}
@@ -51,10 +53,6 @@ raised-waits Idle = refl
 raised-waits Pending = refl
 raised-waits Claimed = refl
 
-and-true : (b : Bool) → b ≡ (b && true)
-and-true true = refl
-and-true false = refl
-
 noted : (b : Bool) → Noted ≡ cond (b && false) Withdrawn Noted
 noted true = refl
 noted false = refl
@@ -71,6 +69,13 @@ done-asks : (b : Bool) → b ≡ true → (is_pending (cond b Pending Idle) || i
 done-asks true e = refl
 done-asks false e = absurd (false≢true e)
 
+-- The answer to a rise of a line, and to a finish, by its gateway before.
+abbrev pub rise_answer : Gateway → Answer
+rise_answer g = cond (not (is_pending g.request || is_claimed g.request)) Accepted Noted
+
+abbrev pub finish_answer : Gateway → Answer
+finish_answer g = cond g.high Accepted Noted
+
 -- A threshold that follows the newest line of a settled PLIC is that line's priority, or 0.
 levels : (p q : Plic 64) → Settled p → Follows p (newest (stack_of (gate 64 p))) q → q ≡ levelled p
 levels p q s = at (stack_of (gate 64 p)) (λ n sure. sym (members (gate 64 p) s.fair s.single n) ∙ sure)
@@ -84,21 +89,13 @@ levels p q s = at (stack_of (gate 64 p)) (λ n sure. sym (members (gate 64 p) s.
         let same : (gate 64 p y).priority % 8 ≡ (gate 64 p y).priority = omega arith in
         follows (omega arith, omega arith) ∙ ap (λ t. with_threshold 64 p t) same
 
--- A refused shut leaves the PLIC as it was, in every state.
-pub shut-unmoved : (x : Gateway) (p : Plic 64) (n : ℕ) (q : Plic 64) (r : Result Answer Refusal) → ShutsIdle x p n r q → Untouched r p q
-shut-unmoved x p n q (Ok a) did = tt
-shut-unmoved x p n q (Err e) did = did.2
-
--- Calls at a line n, whose gateway was seen as x.
-module _ (p : Plic 64) (n : ℕ) (s : Sound p) (x : Gateway) (seen : x ≡ gateway_of 64 p n) (ne : x.priority ≡ 0 → ⊥) where
+-- Calls at a line n, whose gateway is x.
+module _ (p : Plic 64) (n : ℕ) (s : Sound p) (x : Gateway) (lined : Lined p n (Ok x)) where
   is : x ≡ gate 64 p n
-  is = seen ∙ gate-shown p n s.settled.table
+  is = lined.0 ∙ gate-shown p n s.settled.table
 
   positive : 0 < (gate 64 p n).priority
-  positive =
-      ⊎_elim (λ lt. lt)
-      (λ le. absurd (ne (ap (λ (g : Gateway). g.priority) is ∙ (let z : (gate 64 p n).priority ≡ 0 = omega arith in z))))
-      (cases_lt 0 (gate 64 p n).priority)
+  positive = subst (λ (g : Gateway). 0 < g.priority) is lined.1
 
   line : ltb 0 (gate 64 p n).priority ≡ true
   line = lt-ltb 0 _ positive
@@ -140,15 +137,15 @@ module _ (p : Plic 64) (n : ℕ) (s : Sound p) (x : Gateway) (seen : x ≡ gatew
   fall-leaves q (Ok _) did = did.1
   fall-leaves q (Err e) did = absurd (did.0 source)
 
-  pub falls : (q : Plic 64) → q ≡ fallen_at p n → (a : Answer) → a ≡ Noted → Sound q × Falls (meant p) n (Ok a) (meant q)
-  falls q is-q a is-a =
+  pub falls : (q : Plic 64) → q ≡ fallen_at p n → Sound q × Falls (meant p) n (Ok Noted) (meant q)
+  falls q is-q =
       let g = fallen (gate 64 p n) in
       let fair' = fair-line n (gate 64 p n) g positive fair refl fair.held (λ bad. absurd (false≢true bad)) in (
         subst Sound (sym is-q) (quiet-sound p n g s below refl refl fair'),
         so line (
-          ap Ok (is-a ∙ noted (is_pending (gate 64 p n).request)),
+          ap Ok (noted (is_pending (gate 64 p n).request)),
           ap meant is-q ∙ quiet_told p n g s below refl refl fair'
-              ∙ ap (onward (meant p)) (state-same (marked-same _ n) refl (ap (marked (λ j. is_pending (gate 64 p j).request) n) (and-true (is_pending (gate 64 p n).request))) refl),
+              ∙ ap (onward (meant p)) (state-same (marked-same _ n) refl (ap (marked (λ j. is_pending (gate 64 p j).request) n) (sym (and-true (is_pending (gate 64 p n).request)))) refl),
         ),
       )
 
@@ -156,36 +153,33 @@ module _ (p : Plic 64) (n : ℕ) (s : Sound p) (x : Gateway) (seen : x ≡ gatew
   pub enable-leaves : (q : Plic 64) (on : Bool) → SetsEnabled p n on q → q ≡ enabled_at p n on
   enable-leaves q on did = did source
 
-  pub opens : (q : Plic 64) → q ≡ enabled_at p n true → (a : Answer) → a ≡ Done → Sound q × Opens (meant p) n (Ok a) (meant q)
-  opens q is-q a is-a =
+  pub opens : (q : Plic 64) → q ≡ enabled_at p n true → Sound q × Opens (meant p) n (Ok Done) (meant q)
+  opens q is-q =
       let g = with_enabled (gate 64 p n) true in
       let fair' = fair-line n (gate 64 p n) g positive fair refl (λ _. refl) fair.asks in (
         subst Sound (sym is-q) (quiet-sound p n g s below refl refl fair'),
         so line (
-          ap Ok is-a,
+          refl,
           ap meant is-q ∙ quiet_told p n g s below refl refl fair'
               ∙ ap (onward (meant p)) (state-same refl (marked-same _ n) (marked-same _ n) refl),
         ),
       )
 
   -- Shut.
-  pub shut-leaves : (q : Plic 64) (r : Result Answer Refusal) → ShutsIdle x p n r q → q ≡ after r p (enabled_at p n false)
-  shut-leaves q (Ok a) did = did.2 source
-  shut-leaves q (Err e) did = did.2
-
   claimed-seen : (b : Bool) → is_claimed x.request ≡ b → is_claimed (gate 64 p n).request ≡ b
   claimed-seen b e = ap (λ (y : Gateway). is_claimed y.request) (sym is) ∙ e
 
-  pub shuts : (q : Plic 64) (r : Result Answer Refusal) → ShutsIdle x p n r q → Sound q × Shuts (meant p) n r (meant q)
-  shuts q (Err e) did = (subst Sound (sym did.2) s, so line (so (mem ∙ claimed-seen true did.0) (ap Err did.1, ap meant did.2)))
-  shuts q (Ok a) did =
+  pub shut-refused : is_claimed x.request ≡ true → Sound p × Shuts (meant p) n (Err InService) (meant p)
+  shut-refused sure = (s, so line (so (mem ∙ claimed-seen true sure) (refl, refl)))
+
+  pub shuts : (q : Plic 64) → q ≡ enabled_at p n false → is_claimed x.request ≡ false → Sound q × Shuts (meant p) n (Ok Done) (meant q)
+  shuts q is-q idle =
       let g = with_enabled (gate 64 p n) false in
-      let is-q = did.2 source in
-      let out = claimed-seen false did.0 in
+      let out = claimed-seen false idle in
       let fair' = fair-line n (gate 64 p n) g positive fair refl (λ sure. absurd (both_ways _ out sure)) fair.asks in (
         subst Sound (sym is-q) (quiet-sound p n g s below refl refl fair'),
         so line (otherwise (mem ∙ out) (
-          ap Ok did.1,
+          refl,
           ap meant is-q ∙ quiet_told p n g s below refl refl fair'
               ∙ ap (onward (meant p)) (state-same refl (marked-same _ n) (marked-same _ n) refl),
         )),
@@ -224,7 +218,12 @@ module _ (p : Plic 64) (n : ℕ) (s : Sound p) (x : Gateway) (seen : x ≡ gatew
           )),
         )
 
--- Take.
+-- Take. While the PLIC signals, a claim answers a source.
+pub claim-signalled : (p q : Plic 64) (r : Option ℕ) → chip.Signals 64 p true → ClaimsFirst p r q → ClaimsSignalled p r q
+unfolding ChipLaws
+claim-signalled p q None some did = let above = (chip-laws 64).signalled p q 0 some did in absurd (omega (arith, above.0.0.0))
+claim-signalled p q (Some n) some did = (some, did.1)
+
 module _ (p : Plic 64) (s : Sound p) (n : ℕ) (q₁ : Plic 64) (did : ClaimsSignalled p (Some n) q₁) where
   up : Above 64 p n
   unfolding ChipLaws

@@ -102,14 +102,26 @@ one_more ps p q n pos lt part wr = subst (Partly ps (n + 1)) (sym (wr (omega ari
       rest = λ k past. get_or-set_other p.gateways n k _ blank (λ e. omega arith) ∙ part.rest k (omega arith);
     }
 
--- None is written yet.
-pub none_yet : (ps : List ℕ) → Partly ps 1 (fresh 64)
-none_yet ps = record {
+-- Entry 0 is ignored.
+pub none_at_zero : (ps : List ℕ) (p : Plic 64) → Partly ps 0 p → Partly ps 1 p
+none_at_zero ps p part = record {
+  table = part.table;
+  threshold = part.threshold;
+  done = λ k lt. part.rest k (omega arith) ∙ sym (ap (made ps) (let z : k ≡ 0 = omega arith in z));
+  rest = λ k le. part.rest k (omega arith);
+}
+
+-- Nothing is written yet.
+pub nothing_yet : (ps : List ℕ) → Partly ps 0 (fresh 64)
+nothing_yet ps = record {
   table = length-replicate 64 blank;
   threshold = refl;
-  done = λ k lt. all k ∙ sym (ap (made ps) (let z : k ≡ 0 = omega arith in z));
+  done = λ k lt. absurd (omega arith);
   rest = λ k _. all k;
 }
   where
     all : (k : ℕ) → gate 64 (fresh 64) k ≡ blank
     all k = ⊎_elim (λ lt. get_or-replicate 64 k blank blank lt) (λ ge. get_or_past (replicate 64 blank) k blank ge) (cases_lt k 64)
+
+pub none_yet : (ps : List ℕ) → Partly ps 1 (fresh 64)
+none_yet ps = none_at_zero ps (fresh 64) (nothing_yet ps)

@@ -1,6 +1,7 @@
 -- The winner among the claimed lines is the newest line.
 use Rattle.std.proofs.Common.{◌≡◌, ℕ, ◌-◌, ◌<◌, ◌≤◌, true, eqb, leb, List, [], ◌∷◌, length, Some, None, Option, sym, refl, ap, ◌∙◌, ⊎_elim, arith}
-use Rattle.std.proofs.lemmas.Bool.{cases_Bool, or_cases, eqb-true, cond-true, cond-false, leb-true, false≢true}
+use Rattle.std.proofs.lemmas.Bool.{or_cases, eqb-true, cond-true, leb-true, false≢true}
+use Rattle.std.proofs.lemmas.Option.{cond_some}
 use Rattle.arbiter.specs.declared.key.Priority.{Priority}
 use Rattle.arbiter.specs.Winning.{Holds, Winner}
 use Rattle.arbiter.proofs.Winners.{holds-within}
@@ -18,12 +19,7 @@ use Rattle.plic_controller.proofs.Tables.{gate-shown}
 use Rattle.plic_controller.specs.Claimed.{claimed-line, members, climbs}
 
 serves : (g : Gateway) (k : Priority) → served_key g ≡ Some k → (is_claimed g.request ≡ true) × (k.0 ≡ g.priority)
-serves g k e =
-    ⊎_elim
-    (λ sure. let s : Some (record { 0 = g.priority }) ≡ Some k = sym (cond-true _ _ _ sure) ∙ e in
-    (sure, (let t : ◌≡◌ {A = Priority} (record { 0 = g.priority }) k = cc in sym (ap (λ (x : Priority). x.0) t))))
-    (λ nay. let s : None ≡ Some k = sym (cond-false _ _ _ nay) ∙ e in let z : ◌≡◌ {A = ℕ} 0 1 = cc in absurd (omega arith))
-    (cases_Bool (is_claimed g.request))
+serves g k e = let s = cond_some _ _ _ e in (s.0, sym (ap (λ (x : Priority). x.0) s.1))
 
 module _ (p : Plic 64) (ls : List (Option Priority)) (served : ServedKeys p ls) (settled : Settled p) where
   claimed-at : (n : ℕ) (k : Priority) → Holds ls n k → (is_claimed (gate 64 p n).request ≡ true) × (k.0 ≡ (gate 64 p n).priority)

@@ -1,13 +1,11 @@
 -- What the controller's own steps do: each register used, and the search for the newest line.
-use Rattle.std.specs.Prelude.{◌≡◌, ℕ, ◌%◌, ◌<◌, Bool, true, false, cond, not, ◌||◌, List, length, Some, None, Ok, Err, Option, Result, ◌==◌, slice_index_or}
+use Rattle.std.specs.Prelude.{◌≡◌, ℕ, ◌%◌, ◌<◌, Bool, true, false, cond, List, length, Some, None, Ok, Err, Option, Result, ◌==◌, slice_index_or}
 use Rattle.arbiter.specs.declared.key.Priority.{Priority}
-use Rattle.controller.specs.declared.answer.Answer.{Answer}
-use Rattle.controller.specs.declared.answer.Answer.TheVariants.{Accepted, Noted, Done}
 use Rattle.controller.specs.declared.refusal.Refusal.{Refusal}
-use Rattle.controller.specs.declared.refusal.Refusal.TheVariants.{InService}
+use Rattle.controller.specs.declared.refusal.Refusal.TheVariants.{NotALine}
 use Rattle.plic.specs.declared.chip.Plic.{Plic}
 use Rattle.plic.specs.declared.gateway.Gateway.{Gateway}
-use Rattle.plic.specs.Gateways.{is_pending, is_claimed, with_enabled, with_priority}
+use Rattle.plic.specs.Gateways.{is_claimed, with_enabled, with_priority}
 use Rattle.plic.specs.Words.{bit}
 use Rattle.plic.specs.Chip.{Source, gate, gateway_of, with_gate, with_threshold, Signals, Claims}
 
@@ -27,27 +25,25 @@ SetsPriority p n priority q = Source 64 n → q ≡ with_gate 64 p n (with_prior
 abbrev pub SetsEnabled : Plic 64 → ℕ → Bool → Plic 64 → Type 0
 SetsEnabled p n on q = Source 64 n → q ≡ with_gate 64 p n (with_enabled (gate 64 p n) on)
 
+-- A claim answers the first source and makes it claimed, or answers none and changes nothing.
+abbrev pub ClaimsFirst : Plic 64 → Option ℕ → Plic 64 → Type 0
+ClaimsFirst p None q = Claims 64 p 0 q
+ClaimsFirst p (Some n) q = (0 < n) × Claims 64 p n q
+
 -- A claim is made exactly if the PLIC signals.
 abbrev pub ClaimsSignalled : Plic 64 → Option ℕ → Plic 64 → Type 0
 ClaimsSignalled p None q = Signals 64 p false × (q ≡ p)
 ClaimsSignalled p (Some n) q = Signals 64 p true × Claims 64 p n q
 
--- Source n, whose gateway is g, is shut unless it is claimed.
-abbrev pub ShutsIdle : Gateway → Plic 64 → ℕ → Result Answer Refusal → Plic 64 → Type 0
-ShutsIdle g p n (Ok a) q = (is_claimed g.request ≡ false) × (a ≡ Done) × SetsEnabled p n false q
-ShutsIdle g p n (Err e) q = (is_claimed g.request ≡ true) × (e ≡ InService) × (q ≡ p)
+-- The gateway of line n; what is no line is refused.
+abbrev pub Lined : Plic 64 → ℕ → Result Gateway Refusal → Type 0
+Lined p n (Ok g) = (g ≡ gateway_of 64 p n) × (0 < g.priority)
+Lined p n (Err e) = ((gateway_of 64 p n).priority ≡ 0) × (e ≡ NotALine)
 
 -- The threshold is set to the priority of the newest line, or to 0; three bits are kept.
 abbrev pub Follows : Plic 64 → Option ℕ → Plic 64 → Type 0
 Follows p None q = q ≡ with_threshold 64 p 0
 Follows p (Some n) q = Source 64 n → q ≡ with_threshold 64 p ((gate 64 p n).priority % 8)
-
--- The answer to a rise of a line, and to a finish, by its gateway before.
-abbrev pub rise_answer : Gateway → Answer
-rise_answer g = cond (not (is_pending g.request || is_claimed g.request)) Accepted Noted
-
-abbrev pub finish_answer : Gateway → Answer
-finish_answer g = cond g.high Accepted Noted
 
 -- The key under which a line in service contends to be the newest.
 abbrev pub served_key : Gateway → Option Priority

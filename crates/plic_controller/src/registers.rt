@@ -1,7 +1,7 @@
 // One use of a register each, at its offset.
 ghost use Rattle.std.specs.Prelude.{◌≡◌, ◌%◌, ◌<◌};
-ghost use Rattle.plic.specs.Chip.{Claims, Completes, with_threshold};
-ghost use Rattle.plic_controller.specs.Steps.{WithBit, ReadsPriority, SetsPriority, SetsEnabled};
+ghost use Rattle.plic.specs.Chip.{Completes, with_threshold};
+ghost use Rattle.plic_controller.specs.Steps.{WithBit, ReadsPriority, SetsPriority, SetsEnabled, ClaimsFirst};
 
 use plic::Plic;
 
@@ -18,17 +18,14 @@ const CLAIM: u32 = 0x200004;
 pub(crate) fn set_priority(chip: &mut Plic<64>, n: u16, priority: u8)
     ensures { SetsPriority chip.old n priority chip.new }
 {
-    let _ = chip.write(PRIORITIES + 4 * n as u32, priority as u32);
+    let _ = chip.write(PRIORITIES + 4 * u32::from(n), u32::from(priority));
 }
 
 // The priority of source n.
 pub(crate) fn priority(chip: &mut Plic<64>, n: u16) -> u32
     ensures { ReadsPriority chip.old n result chip.new }
 {
-    match chip.read(PRIORITIES + 4 * n as u32) {
-        Ok(priority) => priority,
-        Err(_) => 0,
-    }
+    chip.read(PRIORITIES + 4 * u32::from(n)).unwrap_or(0)
 }
 
 // The value with its bit i set or cleared.
@@ -44,9 +41,10 @@ fn with_bit(value: u32, i: u32, on: bool) -> u32
 pub(crate) fn set_enabled(chip: &mut Plic<64>, n: u16, on: bool)
     ensures { SetsEnabled chip.old n on chip.new }
 {
-    let offset = ENABLES + 4 * (n as u32 / 32);
+    let n = u32::from(n);
+    let offset = ENABLES + 4 * (n / 32);
     if let Ok(word) = chip.read(offset) {
-        let _ = chip.write(offset, with_bit(word, n as u32 % 32, on));
+        let _ = chip.write(offset, with_bit(word, n % 32, on));
     }
 }
 
@@ -57,13 +55,15 @@ pub(crate) fn set_threshold(chip: &mut Plic<64>, level: u32)
     let _ = chip.write(THRESHOLD, level);
 }
 
-// Claims the first source, whatever the threshold is; 0 if there is none.
-pub(crate) fn claim(chip: &mut Plic<64>) -> u16
-    ensures { Claims 64 chip.old result chip.new }
+// Claims the first source, whatever the threshold is, if there is one.
+pub(crate) fn claim(chip: &mut Plic<64>) -> Option<u16>
+    ensures { ClaimsFirst chip.old result chip.new }
 {
+    // Not `Ok(0) | Err(_)`: which of the two it was is then lost to the proof.
     match chip.read(CLAIM) {
-        Ok(n) => n as u16,
-        Err(_) => 0,
+        Ok(0) => None,
+        Ok(n) => Some(n as u16),
+        Err(_) => None,
     }
 }
 
@@ -71,5 +71,5 @@ pub(crate) fn claim(chip: &mut Plic<64>) -> u16
 pub(crate) fn complete(chip: &mut Plic<64>, n: u16)
     ensures { Completes 64 chip.old n chip.new }
 {
-    let _ = chip.write(CLAIM, n as u32);
+    let _ = chip.write(CLAIM, u32::from(n));
 }

@@ -15,19 +15,18 @@ use plic::{Gateway, Plic, Request};
 fn key(gateway: Gateway) -> Option<Priority>
     ensures { result ≡ served_key gateway }
 {
-    match gateway.request {
-        Request::Claimed => Some(Priority(gateway.priority)),
-        _ => None,
-    }
+    let serves = gateway.request == Request::Claimed;
+    serves.then_some(Priority(gateway.priority))
 }
 
 // A leaf for each number: the key of a line in service, or nothing.
 fn keys(chip: &Plic<64>) -> [Option<Priority>; 64]
     ensures { ServedKeys chip.now result }
 {
+    // Not `std::array::from_fn`: the proof of it for 64 places comes too close to the prover's limit.
     let mut leaves = [None; 64];
-    for n in 0..64 {
-        leaves[n] = key(chip.gateway(n as u16));
+    for (n, leaf) in leaves.iter_mut().enumerate() {
+        *leaf = key(chip.gateway(n as u16));
     }
     leaves
 }
@@ -36,27 +35,21 @@ fn keys(chip: &Plic<64>) -> [Option<Priority>; 64]
 pub(crate) fn newest(chip: &Plic<64>) -> Option<u16>
     ensures { Settled chip.now → result ≡ newest (stack_of (gate 64 chip.now)) }
 {
-    let leaves = keys(chip);
-    match winner(&leaves) {
-        Some(n) => Some(n as u16),
-        None => None,
-    }
+    winner(&keys(chip)).map(|n| n as u16)
 }
 
 // Whether n is that line.
 pub(crate) fn is_newest(chip: &Plic<64>, n: u16) -> bool
     ensures { Settled chip.now → result ≡ tops (stack_of (gate 64 chip.now)) n }
 {
-    match newest(chip) {
-        Some(m) => n == m,
-        None => false,
-    }
+    newest(chip) == Some(n)
 }
 
 // Sets the threshold to the priority of the newest line, or to 0 if nothing is in service.
 pub(crate) fn follow(chip: &mut Plic<64>, newest: Option<u16>)
     ensures { Follows chip.old newest chip.new }
 {
+    // Not `map_or`: its closure would hold the chip, and what it left of the chip would be lost to the proof.
     let level = match newest {
         Some(n) => registers::priority(chip, n),
         None => 0,
@@ -69,7 +62,7 @@ pub(crate) fn claim_signalled(chip: &mut Plic<64>) -> Option<u16>
     ensures { ClaimsSignalled chip.old result chip.new }
 {
     if chip.signal() {
-        Some(registers::claim(chip))
+        registers::claim(chip)
     } else {
         None
     }

@@ -6,7 +6,7 @@ ghost use Rattle.controller.specs.Rules.{Rises, Falls, Opens, Shuts, Takes, Fini
 ghost use Rattle.plic_controller.specs.Told.{meant, fixed_by};
 ghost use Rattle.plic_controller.specs.Sound.{Sound};
 ghost use Rattle.plic_controller.specs.Made.{Made, kept_of, at_rest};
-ghost use Rattle.plic_controller.specs.Steps.{ShutsIdle, rise_answer, finish_answer};
+ghost use Rattle.plic_controller.specs.Steps.{Lined};
 ghost use Rattle.plic_controller.specs.After.{after, risen_at, fallen_at, enabled_at, taken_at, finished_at};
 ghost use Rattle.plic_controller.specs.Lawful;
 
@@ -35,48 +35,28 @@ impl PlicController {
         ensures laws { RuleLaws }
     {
         let mut chip = Plic::new();
-        for n in 1..64 {
-            registers::set_priority(&mut chip, n as u16, priorities[n]);
+        for (n, priority) in priorities.iter().enumerate() {
+            if n > 0 {
+                registers::set_priority(&mut chip, n as u16, *priority);
+            }
         }
         PlicController { chip }
     }
-}
 
-// The answer to a rise of a line.
-fn rise_answer(gateway: Gateway) -> Answer
-    ensures { result ≡ rise_answer gateway }
-{
-    match gateway.request {
-        Request::Idle => Answer::Accepted,
-        Request::Pending => Answer::Noted,
-        Request::Claimed => Answer::Noted,
-    }
-}
-
-// The answer to a finish of a line.
-fn finish_answer(gateway: Gateway) -> Answer
-    ensures { result ≡ finish_answer gateway }
-{
-    if gateway.high {
-        Answer::Accepted
-    } else {
-        Answer::Noted
-    }
-}
-
-// Shuts line n, whose gateway is given, unless it is in service.
-fn shut_idle(chip: &mut Plic<64>, gateway: Gateway, n: u16) -> Result<Answer, Refusal>
-    ensures { ShutsIdle gateway chip.old n result chip.new }
-{
-    match gateway.request {
-        Request::Claimed => Err(Refusal::InService),
-        _ => {
-            registers::set_enabled(chip, n, false);
-            Ok(Answer::Done)
+    // The gateway of line n; a number that is no line is refused.
+    fn line(&self, n: u16) -> Result<Gateway, Refusal>
+        ensures { Lined self.now.chip n result }
+    {
+        let gateway = self.chip.gateway(n);
+        if gateway.priority > 0 {
+            Ok(gateway)
+        } else {
+            Err(Refusal::NotALine)
         }
     }
 }
 
+// A call's own clauses stand in place of the trait's: so each repeats the trait's two before the one of its chip.
 impl Controller for PlicController {
     ghost widths = { λ c. (meant c.chip).fixed.width };
 
@@ -131,12 +111,9 @@ impl Controller for PlicController {
         ensures refused { Untouched result self.old self.new }
         ensures chip { Sound self.old.chip → self.new.chip ≡ after result self.old.chip (risen_at self.old.chip n) }
     {
-        let gateway = self.chip.gateway(n);
-        if gateway.priority == 0 {
-            return Err(Refusal::NotALine);
-        }
+        let gateway = self.line(n)?;
         let _ = self.chip.rise(n);
-        Ok(rise_answer(gateway))
+        Ok(Answer::accepted_if(gateway.request == Request::Idle))
     }
 
     fn fall(&mut self, n: u16) -> Result<Answer, Refusal>
@@ -144,10 +121,7 @@ impl Controller for PlicController {
         ensures refused { Untouched result self.old self.new }
         ensures chip { Sound self.old.chip → self.new.chip ≡ after result self.old.chip (fallen_at self.old.chip n) }
     {
-        let gateway = self.chip.gateway(n);
-        if gateway.priority == 0 {
-            return Err(Refusal::NotALine);
-        }
+        self.line(n)?;
         let _ = self.chip.fall(n);
         Ok(Answer::Noted)
     }
@@ -157,10 +131,7 @@ impl Controller for PlicController {
         ensures refused { Untouched result self.old self.new }
         ensures chip { Sound self.old.chip → self.new.chip ≡ after result self.old.chip (enabled_at self.old.chip n true) }
     {
-        let gateway = self.chip.gateway(n);
-        if gateway.priority == 0 {
-            return Err(Refusal::NotALine);
-        }
+        self.line(n)?;
         registers::set_enabled(&mut self.chip, n, true);
         Ok(Answer::Done)
     }
@@ -170,11 +141,12 @@ impl Controller for PlicController {
         ensures refused { Untouched result self.old self.new }
         ensures chip { Sound self.old.chip → self.new.chip ≡ after result self.old.chip (enabled_at self.old.chip n false) }
     {
-        let gateway = self.chip.gateway(n);
-        if gateway.priority == 0 {
-            return Err(Refusal::NotALine);
+        let gateway = self.line(n)?;
+        if gateway.request == Request::Claimed {
+            return Err(Refusal::InService);
         }
-        shut_idle(&mut self.chip, gateway, n)
+        registers::set_enabled(&mut self.chip, n, false);
+        Ok(Answer::Done)
     }
 
     // Claims only while the PLIC signals, and then sets the threshold to the claimed line's priority.
@@ -193,16 +165,13 @@ impl Controller for PlicController {
         ensures refused { Untouched result self.old self.new }
         ensures chip { Sound self.old.chip → self.new.chip ≡ after result self.old.chip (finished_at self.old.chip n) }
     {
-        let gateway = self.chip.gateway(n);
-        if gateway.priority == 0 {
-            return Err(Refusal::NotALine);
-        }
+        let gateway = self.line(n)?;
         if !serving::is_newest(&self.chip, n) {
             return Err(Refusal::NotNewest);
         }
         registers::complete(&mut self.chip, n);
         let newest = serving::newest(&self.chip);
         serving::follow(&mut self.chip, newest);
-        Ok(finish_answer(gateway))
+        Ok(Answer::accepted_if(gateway.high))
     }
 }

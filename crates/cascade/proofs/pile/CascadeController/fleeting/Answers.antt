@@ -1,12 +1,11 @@
-use Rattle.std.proofs.Common.{rules}
 use Rattle.cascade.proofs.Passing.{neither-fleeting, outer-fleeting, inner-fleeting}
 use Rattle.cascade.proofs.pile.CascadeController.fleeting.Goals as goal
 
-pub returns-in-Neither : goal.returns-in-Neither
-returns-in-Neither g c sound = neither-fleeting g.O.Controller g.I.Controller g.met.O.Controller.lawful g.met.I.Controller.lawful c.args.self.now sound c.args.n (c.in-Neither.ensures sound)
+pub returns-in-Err : goal.returns-in-Err
+returns-in-Err g c sound = neither-fleeting g.O.Controller g.I.Controller g.met.O.Controller.lawful g.met.I.Controller.lawful c.args.self.now sound c.args.n c.in-Err.field-0 (c.in-Err.ensures sound)
 
-pub returns-in-Outer : goal.returns-in-Outer
-returns-in-Outer g c sound = outer-fleeting g.O.Controller g.I.Controller g.met.O.Controller.lawful g.met.I.Controller.lawful c.args.self.now sound c.args.n c.fleeting.result (c.in-Outer.ensures sound) (search rules)
+pub returns-in-Ok-Outer : goal.returns-in-Ok-Outer
+returns-in-Ok-Outer g c sound = outer-fleeting g.O.Controller g.I.Controller g.met.O.Controller.lawful g.met.I.Controller.lawful c.args.self.now sound c.args.n c.fleeting.result (let told = c.part.ensures sound in cc) c.fleeting.ensures
 
-pub returns-in-Inner : goal.returns-in-Inner
-returns-in-Inner g c sound = inner-fleeting g.O.Controller g.I.Controller g.met.O.Controller.lawful g.met.I.Controller.lawful c.args.self.now sound c.args.n c.fleeting-in-Inner.result c.in-Inner.m (c.in-Inner.ensures sound) (search rules)
+pub returns-in-Ok-Inner : goal.returns-in-Ok-Inner
+returns-in-Ok-Inner g c sound = inner-fleeting g.O.Controller g.I.Controller g.met.O.Controller.lawful g.met.I.Controller.lawful c.args.self.now sound c.args.n c.fleeting-in-Ok-Inner.result c.in-Ok-Inner.field-0-0 c.in-Ok-Inner.m (let told = c.part.ensures sound in cc) c.fleeting-in-Ok-Inner.ensures

@@ -1,34 +1,15 @@
-use Rattle.std.proofs.Common.{Err, refl}
-use Rattle.controller.specs.declared.refusal.Refusal.TheVariants.{NotALine}
+use Rattle.std.proofs.Common.{refl, rules}
 use Rattle.controller.specs.Rules.{Rises, otherwise}
 use Rattle.controller.proofs.Refused.{rises-same}
 use Rattle.cascade.proofs.Calls.{rises-outer, rises-inner}
-use Rattle.cascade.proofs.Goes.{went, unmoved-outer, unmoved-both, unmoved-parts}
-use Rattle.cascade.proofs.Passing.{Refuses, call-neither, call-outer, call-inner}
+use Rattle.cascade.proofs.Passing.{call-neither, call-outer, call-inner}
 use Rattle.cascade.proofs.pile.CascadeController.rise.Goals as goal
 
-refuses : Refuses Rises
-refuses m n e = otherwise e (refl, refl)
+pub returns-in_err-part-clause-rule : goal.returns-in_err-part-clause-rule
+returns-in_err-part-clause-rule g c sound = call-neither g.O.Controller g.I.Controller g.met.O.Controller.lawful g.met.I.Controller.lawful c.args.self.now sound c.args.n Rises (λ m n e. otherwise e (refl, refl)) c.in_err-part.field-0.0 (c.in_err-part.ensures sound) c.from_residual.result (search rules)
 
-pub returns-in-Neither : goal.returns-in-Neither
-returns-in-Neither g c = record {
-  rule = λ sound. call-neither g.O.Controller g.I.Controller g.met.O.Controller.lawful g.met.I.Controller.lawful c.args.self.now sound c.args.n Rises refuses (c.in-Neither.ensures sound);
-  parts = unmoved-parts g.O.Controller g.I.Controller c.args.self.now (Err NotALine) c.args.self.now refl;
-  refused = refl;
-}
+pub returns-in-Outer-clause-rule : goal.returns-in-Outer-clause-rule
+returns-in-Outer-clause-rule g c sound = call-outer g.O.Controller g.I.Controller g.met.O.Controller.lawful g.met.I.Controller.lawful c.args.self.now sound c.args.n Rises rises-outer (let told = c.in_ok-part.ensures sound in cc) c.rise.result c.rise.new.self c.rise.ensures.rule
 
-pub returns-in-Outer : goal.returns-in-Outer
-returns-in-Outer g c = record {
-  rule = λ sound. call-outer g.O.Controller g.I.Controller g.met.O.Controller.lawful g.met.I.Controller.lawful c.args.self.now sound c.args.n Rises rises-outer (c.in-Outer.ensures sound) c.rise.result c.rise.new.self c.rise.ensures.rule;
-  parts = unmoved-parts g.O.Controller g.I.Controller c.args.self.now c.rise.result (went g.O.Controller g.I.Controller c.args.self.now c.rise.new.self c.args.self.now.inner) (unmoved-outer g.O.Controller g.I.Controller c.args.self.now c.rise.result c.rise.new.self c.rise.ensures.refused);
-  refused = unmoved-outer g.O.Controller g.I.Controller c.args.self.now c.rise.result c.rise.new.self c.rise.ensures.refused;
-}
-
-pub returns-in-Inner : goal.returns-in-Inner
-returns-in-Inner g c =
-    let call = c.rise-in-Inner in
-    record {
-      rule = λ sound. call-inner g.O.Controller g.I.Controller g.met.O.Controller.lawful g.met.I.Controller.lawful c.args.self.now sound c.args.n Rises rises-inner rises-same c.in-Inner.m (c.in-Inner.ensures sound) call.result call.new.outer call.new.inner call.ensures.goes;
-      parts = unmoved-parts g.O.Controller g.I.Controller c.args.self.now call.result (went g.O.Controller g.I.Controller c.args.self.now call.new.outer call.new.inner) (unmoved-both g.O.Controller g.I.Controller c.args.self.now call.result call.new.outer call.new.inner call.ensures.outer call.ensures.inner);
-      refused = unmoved-both g.O.Controller g.I.Controller c.args.self.now call.result call.new.outer call.new.inner call.ensures.outer call.ensures.inner;
-    }
+pub returns-in-Inner-clause-rule : goal.returns-in-Inner-clause-rule
+returns-in-Inner-clause-rule g c sound = call-inner g.O.Controller g.I.Controller g.met.O.Controller.lawful g.met.I.Controller.lawful c.args.self.now sound c.args.n Rises rises-inner rises-same c.in-Inner.k c.in-Inner.m (let told = c.in_ok-part.ensures sound in cc) c.inside.result c.inside.new.self c.inside.ensures.same (search rules) c.inside.ensures.informs

@@ -1,21 +1,10 @@
-use Rattle.std.proofs.Common.{◌≡◌, sym, ap, ◌∙◌}
-use Rattle.i8259a.specs.declared.chip.I8259a.{I8259a}
-use Rattle.i8259a.specs.declared.chip.Register.TheVariants.{Isr}
-use Rattle.i8259a.specs.Chip.{fallen, shows}
-use Rattle.i8259a_controller.proofs.Calls.{falls, line_of}
+use Rattle.std.proofs.Common.{◌≡◌, sym, ◌∙◌, rules}
+use Rattle.i8259a.specs.Chip.{fallen}
+use Rattle.i8259a_controller.proofs.Calls.{falls, of_a_line}
 use Rattle.i8259a_controller.proofs.unit.I8259aControllerController.fall.Goals as goal
 
-pub returns : goal.returns
-returns c =
+pub returns-clause-rule : goal.returns-clause-rule
+returns-clause-rule c sound =
     let chip = c.args.self.now.chip in
-    let n = c.args.n in
-    let same : c.shows-serving.new.self ≡ chip = c.shows-serving.ensures.after ∙ c.shows-high.ensures.after in
-    let is : c.fall.new.self ≡ fallen chip n = c.fall.ensures.after ∙ ap (λ (z : I8259a). fallen z n) same in
-    record {
-      rule = λ sound. falls chip n sound (line_of n (sym c.fall.ensures.answer ∙ c.in_ok-fall.was)) c.fall.new.self c.shows-high.result c.shows-serving.result c.fall_answer.result
-          is c.shows-high.ensures.answer
-          (c.shows-serving.ensures.answer ∙ ap (λ (z : I8259a). shows z Isr n) c.shows-high.ensures.after)
-          c.fall_answer.ensures;
-      refused = tt;
-      chip = is;
-    }
+    let is : c.fall.new.self ≡ fallen chip c.args.n = search rules in
+    falls chip c.args.n sound (of_a_line c.args.n _ _ (sym c.fall.ensures.answer ∙ c.in_ok-fall.was)) c.fall.new.self c.shown-line.result c.fall_answer.result is c.shown-line.ensures.marks c.fall_answer.ensures

@@ -1,11 +1,12 @@
-use Rattle.std.proofs.Common.{sym, ◌∙◌, arith}
-use Rattle.std.proofs.lemmas.Bool.{cond-true, lt-ltb}
-use Rattle.i8259a_controller.proofs.Calls.{opens}
+use Rattle.std.proofs.Common.{◌≡◌, sym, rules}
+use Rattle.i8259a.specs.Bits.{without}
+use Rattle.i8259a.specs.Chip.{with_imr}
+use Rattle.i8259a_controller.proofs.Calls.{opens, of_a_line}
 use Rattle.i8259a_controller.proofs.unit.I8259aControllerController.open.Goals as goal
 
-pub returns : goal.returns
-returns c = record {
-  rule = λ sound. opens c.args.self.now.chip c.args.n sound (omega arith) c.unmask.new.chip (c.unmask.ensures sound.set_up);
-  refused = tt;
-  chip = λ sound. c.unmask.ensures sound.set_up ∙ sym (cond-true _ _ _ (lt-ltb c.args.n 8 (omega arith)));
-}
+pub returns-clause-rule : goal.returns-clause-rule
+returns-clause-rule c sound =
+    let chip = c.args.self.now.chip in
+    let level = of_a_line c.args.n _ _ (sym c.in_ok-level.ensures) in
+    let is : c.set_masked.new.chip ≡ with_imr chip (without chip.imr c.args.n) = search rules in
+    opens chip c.args.n sound level c.set_masked.new.chip is

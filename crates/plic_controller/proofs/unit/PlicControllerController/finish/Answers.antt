@@ -11,16 +11,13 @@ use Rattle.plic_controller.proofs.unit.PlicControllerController.finish.Goals as 
 pub returns : goal.returns
 returns c =
     let p = c.args.self.now.chip in
-    let q = c.follow.new.chip in
-    let x = c.gateway-gateway.result in
-    let seen = c.gateway-gateway.ensures in
-    let ne = c.if-gateway-eq0.false in
     let q₁ = c.complete.new.chip in
+    let q = c.follow.new.chip in
+    let x = c.in_ok-gateway.gateway in
+    let lined = c.in_ok-gateway.ensures in
     let top = λ (sound : Sound p). sym (c.if-not-is_newest.ensures sound.settled) in
-    let follows : (sound : Sound p) → Follows q₁ (newest (stack_of (gate 64 q₁))) q = λ sound.
-    let settled = settled-after p c.args.n sound x seen ne (top sound) q₁ c.complete.ensures in
-    let is = c.newest-newest.ensures settled in
-    search rules in
     let leaves : (sound : Sound p) → q ≡ finished_at p c.args.n = λ sound.
-    finish-leaves p c.args.n sound x seen ne (top sound) q₁ q c.complete.ensures (follows sound) in
-    record { rule = λ sound. finishes p c.args.n sound x seen ne (top sound) q (leaves sound) _ (search rules); refused = tt; chip = leaves }
+    let is = c.newest-newest.ensures (settled-after p c.args.n sound x lined (top sound) q₁ c.complete.ensures) in
+    let follows : Follows q₁ (newest (stack_of (gate 64 q₁))) q = search rules in
+    finish-leaves p c.args.n sound x lined (top sound) q₁ q c.complete.ensures follows in
+    record { rule = λ sound. finishes p c.args.n sound x lined (top sound) q (leaves sound) _ (search rules); refused = tt; chip = leaves }

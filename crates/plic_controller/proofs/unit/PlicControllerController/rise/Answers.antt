@@ -1,14 +1,11 @@
 use Rattle.std.proofs.Common.{rules}
-use Rattle.plic_controller.specs.Sound.{Sound}
 use Rattle.plic_controller.proofs.Calls.{rise-leaves, rises}
 use Rattle.plic_controller.proofs.unit.PlicControllerController.rise.Goals as goal
 
-pub returns : goal.returns
-returns c =
+pub returns-clause-rule : goal.returns-clause-rule
+returns-clause-rule c = λ sound.
     let p = c.args.self.now.chip in
     let q = c.rise.new.self in
-    let x = c.gateway-gateway.result in
-    let seen = c.gateway-gateway.ensures in
-    let ne = c.if-gateway-eq0.false in
-    let leaves = λ (sound : Sound p). rise-leaves p c.args.n sound x seen ne q c.rise.result (search rules) in
-    record { rule = λ sound. rises p c.args.n sound x seen ne q (leaves sound) _ (search rules); refused = tt; chip = leaves }
+    let x = c.in_ok-gateway.gateway in
+    let lined = c.in_ok-gateway.ensures in
+    rises p c.args.n sound x lined q (rise-leaves p c.args.n sound x lined q c.rise.result (search rules)) _ (search rules)

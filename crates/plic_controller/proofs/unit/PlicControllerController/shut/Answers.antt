@@ -1,18 +1,19 @@
-use Rattle.controller.proofs.Refused.{unmoved-in}
-use Rattle.plic.specs.declared.chip.Plic.{Plic}
-use Rattle.plic_controller.proofs.Calls.{shut-leaves, shut-unmoved, shuts}
+use Rattle.std.proofs.Common.{◌≡◌, true, false, rules}
+use Rattle.plic.specs.Gateways.{is_claimed}
+use Rattle.plic_controller.proofs.Calls.{enable-leaves, shut-refused, shuts}
 use Rattle.plic_controller.proofs.unit.PlicControllerController.shut.Goals as goal
 
-pub returns : goal.returns
-returns c =
+pub returns-then-eq-clause-rule : goal.returns-then-eq-clause-rule
+returns-then-eq-clause-rule c =
+    let x = c.in_ok-gateway.gateway in
+    let claimed : is_claimed x.request ≡ true = search rules in
+    λ sound. shut-refused c.args.self.now.chip c.args.n sound x c.in_ok-gateway.ensures claimed
+
+pub returns-clause-rule : goal.returns-clause-rule
+returns-clause-rule c =
     let p = c.args.self.now.chip in
-    let q = c.shut_idle.new.chip in
-    let r = c.shut_idle.result in
-    let x = c.gateway-gateway.result in
-    let seen = c.gateway-gateway.ensures in
-    let ne = c.if-gateway-eq0.false in
-    record {
-      rule = λ sound. shuts p c.args.n sound x seen ne q r c.shut_idle.ensures;
-      refused = unmoved-in (λ (z : Plic 64). record { chip = z }) r p q (shut-unmoved x p c.args.n q r c.shut_idle.ensures);
-      chip = λ sound. shut-leaves p c.args.n sound x seen ne q r c.shut_idle.ensures;
-    }
+    let q = c.set_enabled.new.chip in
+    let x = c.in_ok-gateway.gateway in
+    let lined = c.in_ok-gateway.ensures in
+    let idle : is_claimed x.request ≡ false = search rules in
+    λ sound. shuts p c.args.n sound x lined q (enable-leaves p c.args.n sound x lined q false (search rules)) idle
