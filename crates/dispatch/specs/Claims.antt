@@ -9,10 +9,7 @@ use Rattle.dispatch.specs.declared.claim.Claim.{Claim}
 use Rattle.dispatch.specs.declared.written.Taken.{Taken}
 use Rattle.dispatch.specs.declared.written.Taken.TheVariants as taken
 use Rattle.dispatch.specs.declared.written.Ended.{Ended}
-use Rattle.dispatch.specs.declared.written.Closed.{Closed}
-use Rattle.dispatch.specs.declared.written.Closed.TheVariants as closed
-use Rattle.dispatch.specs.declared.written.Parked.{Parked}
-use Rattle.dispatch.specs.declared.written.Parked.TheVariants as parked
+use Rattle.dispatch.specs.declared.written.Refused.{Refused}
 
 -- Each line that was HELD still is.
 abbrev pub StayHeld : List Entry → List Entry → Type 0
@@ -36,24 +33,15 @@ abbrev pub StartsAnother : Taken → List Entry → Type 0
 StartsAnother (taken.Start k c) es = (n : ℕ) → held n es ≡ true → n ≢ c.line
 StartsAnother (taken.Spurious k) es = Unit {0}
 
--- A refused park or close leaves the whole dispatcher as it was: d before, d' after.
-abbrev pub ParkUnmoved : {D : Type 0} → Parked → D → D → Type 0
-ParkUnmoved parked.Done d d' = Unit {0}
-ParkUnmoved (parked.Refused why b) d d' = d' ≡ d
-
-abbrev pub CloseUnmoved : {D : Type 0} → Closed → D → D → Type 0
-CloseUnmoved (closed.End e) d d' = Unit {0}
-CloseUnmoved (closed.Refused why b) d d' = d' ≡ d
-
 -- Only a claim that is not HELD is refused. A refusal hands it back as it was.
-abbrev pub ParkClaims : Claim → Parked → List Entry → List Entry → Type 0
-ParkClaims c parked.Done es es' = OthersStayHeld c.line es es'
-ParkClaims c (parked.Refused why b) es es' = (b ≡ c) × (held c.line es ≡ false) × StayHeld es es'
+abbrev pub ParkClaims : Claim → Result (Unit {0}) Refused → List Entry → List Entry → Type 0
+ParkClaims c (Ok _) es es' = OthersStayHeld c.line es es'
+ParkClaims c (Err b) es es' = (b.claim ≡ c) × (held c.line es ≡ false) × StayHeld es es'
 
 -- A refusal hands the claim back as it was.
-abbrev pub CloseClaims : Claim → Closed → List Entry → List Entry → Type 0
-CloseClaims c (closed.End e) es es' = OthersStayHeld c.line es es'
-CloseClaims c (closed.Refused why b) es es' = (b ≡ c) × StayHeld es es'
+abbrev pub CloseClaims : Claim → Result Ended Refused → List Entry → List Entry → Type 0
+CloseClaims c (Ok e) es es' = OthersStayHeld c.line es es'
+CloseClaims c (Err b) es es' = (b.claim ≡ c) × StayHeld es es'
 
 -- The newest line n is ended, by close or by finish.
 abbrev pub EndClaims : ℕ → Result Ended Refusal → List Entry → List Entry → Type 0

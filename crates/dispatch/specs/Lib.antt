@@ -2,3 +2,4 @@ pub mod Tables
 pub mod Snapshots
 pub mod Replies
 pub mod Claims
+pub mod Printing

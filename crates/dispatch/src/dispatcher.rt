@@ -12,11 +12,11 @@ ghost use Rattle.service.specs.Law.{Serves};
 ghost use Rattle.dispatch.specs.Tables.{atop, entries_of};
 ghost use Rattle.dispatch.specs.Snapshots.{snapshot, Sound, Does};
 ghost use Rattle.dispatch.specs.Replies.{taken_reply, finished_reply, closed_reply, parked_reply};
-ghost use Rattle.dispatch.specs.Claims.{ParkUnmoved, CloseUnmoved, StayHeld, TakeClaims, TakesAnother, StartsAnother, ParkClaims, CloseClaims, EndClaims};
+ghost use Rattle.dispatch.specs.Claims.{StayHeld, TakeClaims, TakesAnother, StartsAnother, ParkClaims, CloseClaims, EndClaims};
 
 use crate::claim::Claim;
 use crate::nest::Nest;
-use crate::written::{Closed, Ended, Parked, Taken};
+use crate::written::{Ended, Refused, Taken};
 use controller::{Answer, Controller, Refusal};
 use service::{Entry, MOST_DEPTH, Mark};
 
@@ -62,7 +62,8 @@ impl<C: Controller> Dispatcher<C> {
         self.nest.newest()
     }
 
-    // Rise, fall, open and shut go to the controller.
+    // Rise, fall, open and shut go to the controller, each by its own name. The three facts stand on every call, since each
+    // is about that call, what it brings back and the states around it; none is about the dispatcher alone.
     pub fn rise(&mut self, n: u16) -> Result<Answer, Refusal>
         ensures does { Does C.Controller (Rise n) (passed_on result) self.old self.new }
         ensures refused { Untouched result self.old self.new }
@@ -122,46 +123,46 @@ impl<C: Controller> Dispatcher<C> {
     }
 
     // Gives the claim up. Its line stays in service until finish ends it.
-    pub fn park(&mut self, claim: Claim) -> Parked
+    pub fn park(&mut self, claim: Claim) -> Result<(), Refused>
         ensures does { Does C.Controller (Park claim.line) (parked_reply result) self.old self.new }
-        ensures refused { ParkUnmoved result self.old self.new }
+        ensures refused { Untouched result self.old self.new }
         ensures claims { ParkClaims claim result (snapshot C.Controller self.old).nest (snapshot C.Controller self.new).nest }
     {
         if !self.nest.holds(claim.line) {
-            return Parked::Refused {
+            return Err(Refused {
                 why: Refusal::NotHeld,
                 claim,
-            };
+            });
         }
         self.nest.park(claim.line);
         let Claim { line: _ } = claim;
-        Parked::Done
+        Ok(())
     }
 
     // Gives the claim up and ends its line.
-    pub fn close(&mut self, claim: Claim) -> Closed
+    pub fn close(&mut self, claim: Claim) -> Result<Ended, Refused>
         ensures does { Does C.Controller (Close claim.line) (closed_reply result) self.old self.new }
-        ensures refused { CloseUnmoved result self.old self.new }
+        ensures refused { Untouched result self.old self.new }
         ensures claims { CloseClaims claim result (snapshot C.Controller self.old).nest (snapshot C.Controller self.new).nest }
     {
         if !self.nest.holds(claim.line) {
-            return Closed::Refused {
+            return Err(Refused {
                 why: Refusal::NotHeld,
                 claim,
-            };
+            });
         }
         if !self.nest.newest_is(claim.line) {
-            return Closed::Refused {
+            return Err(Refused {
                 why: Refusal::NotNewest,
                 claim,
-            };
+            });
         }
         match self.end(claim.line) {
             Ok(ended) => {
                 let Claim { line: _ } = claim;
-                Closed::End(ended)
+                Ok(ended)
             }
-            Err(why) => Closed::Refused { why, claim },
+            Err(why) => Err(Refused { why, claim }),
         }
     }
 
@@ -190,16 +191,12 @@ impl<C: Controller> Dispatcher<C> {
         ensures claims { EndClaims line result (snapshot C.Controller self.old).nest (snapshot C.Controller self.new).nest }
     {
         let depth = self.nest.depth();
-        match self.controller.finish(line) {
-            Ok(answer) => {
-                self.nest.pop();
-                Ok(Ended {
-                    line,
-                    depth,
-                    answer,
-                })
-            }
-            Err(why) => Err(why),
-        }
+        let answer = self.controller.finish(line)?;
+        self.nest.pop();
+        Ok(Ended {
+            line,
+            depth,
+            answer,
+        })
     }
 }

@@ -9,4 +9,4 @@ mod written;
 pub use claim::Claim;
 pub use dispatcher::Dispatcher;
 pub use service::{Entry, Mark};
-pub use written::{Closed, Ended, Parked, Taken};
+pub use written::{Ended, Refused, Taken};

@@ -1,7 +1,8 @@
-// The table of a nest. It has no invariant: a depth past the table's end counts as the table's length.
-ghost use Rattle.std.specs.Prelude.{◌≡◌, ℕ, ◌<◌, ◌≤◌, true, ◌&&◌, List, [], ◌∷◌, length, ◌==◌};
+// The table of a nest. It has no invariant: a depth past the table's end counts as the table's length. Memory is fixed and
+// the dispatcher's value is plain, so the table is an array with the depth beside it.
+ghost use Rattle.std.specs.Prelude.{◌≡◌, ℕ, ◌<◌, ◌≤◌, true, List, [], ◌∷◌, length, take};
 ghost use Rattle.controller.specs.Rules.{older};
-ghost use Rattle.service.specs.Nests.{most_depth, is_held, held, newest_entry, newest_is, newest_parked, parked, parked_entry, removed};
+ghost use Rattle.service.specs.Nests.{most_depth, held, newest_entry, newest_is, newest_parked, parked, removed};
 ghost use Rattle.dispatch.specs.Tables.{entries_of, within, atop};
 ghost use Rattle.dispatch.specs.Claims.{StayHeld, OthersStayHeld};
 
@@ -12,30 +13,6 @@ use service::{Entry, MOST_DEPTH, Mark};
 pub(crate) struct Nest {
     entries: [Entry; MOST_DEPTH],
     depth: usize,
-}
-
-// Whether the entry is that of the line, marked HELD.
-fn holds(entry: Entry, line: u16) -> bool
-    ensures { result ≡ (line == entry.line && is_held entry.mark) }
-{
-    match entry.mark {
-        Mark::Held => line == entry.line,
-        Mark::Parked => false,
-    }
-}
-
-// The entry, marked PARKED if it is that of the line.
-fn parked(entry: Entry, line: u16) -> Entry
-    ensures { result ≡ parked_entry line entry }
-{
-    if line == entry.line {
-        Entry {
-            line: entry.line,
-            mark: Mark::Parked,
-        }
-    } else {
-        entry
-    }
 }
 
 impl Nest {
@@ -57,53 +34,43 @@ impl Nest {
         ensures reads { result ≡ within self.now.depth }
         ensures few { result ≤ most_depth }
     {
-        if self.depth < MOST_DEPTH {
-            self.depth
-        } else {
-            MOST_DEPTH
-        }
+        self.depth.min(MOST_DEPTH)
+    }
+
+    // The entries, oldest first.
+    fn entries(&self) -> &[Entry]
+        ensures { result.now ≡ take (within self.now.depth) self.now.entries }
+    {
+        &self.entries[..self.depth()]
     }
 
     pub(crate) fn newest(&self) -> Option<Entry>
         ensures { result ≡ newest_entry (entries_of self.now) }
     {
-        let depth = self.depth();
-        if depth == 0 {
-            return None;
-        }
-        Some(self.entries[depth - 1])
+        self.entries().last().copied()
     }
 
     pub(crate) fn newest_is(&self, line: u16) -> bool
         ensures { result ≡ newest_is line (entries_of self.now) }
     {
-        match self.newest() {
-            Some(entry) => line == entry.line,
-            None => false,
-        }
+        self.newest().is_some_and(|entry| line == entry.line)
     }
 
     pub(crate) fn newest_parked(&self) -> bool
         ensures { result ≡ newest_parked (entries_of self.now) }
     {
-        match self.newest() {
-            Some(entry) => match entry.mark {
-                Mark::Held => false,
-                Mark::Parked => true,
-            },
-            None => false,
-        }
+        self.newest()
+            .is_some_and(|entry| entry.mark == Mark::Parked)
     }
 
     pub(crate) fn holds(&self, line: u16) -> bool
         ensures { result ≡ held line (entries_of self.now) }
     {
-        let mut found = false;
-        let depth = self.depth();
-        for i in 0..depth {
-            found = holds(self.entries[i], line) | found;
-        }
-        found
+        let held = Entry {
+            line,
+            mark: Mark::Held,
+        };
+        self.entries().contains(&held)
     }
 
     // A full nest stays as it is.
@@ -137,9 +104,10 @@ impl Nest {
         ensures claims { OthersStayHeld line (entries_of self.old) (entries_of self.new) }
     {
         let depth = self.depth();
-        for i in 0..depth {
-            let entry = parked(self.entries[i], line);
-            self.entries[i] = entry;
+        for entry in &mut self.entries[..depth] {
+            if entry.line == line {
+                entry.mark = Mark::Parked;
+            }
         }
     }
 }

@@ -1,7 +1,7 @@
 mod Making
 mod Puts
-mod Rooms
 mod Turning
+mod Rooms
 mod Looping
 mod Naming
 mod Running

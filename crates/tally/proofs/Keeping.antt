@@ -1,6 +1,5 @@
 -- A tally kept along a list of calls has the counts of the law of service.
-use Rattle.std.proofs.Common.{◌≡◌, ℕ, ◌+◌, ◌≤◌, Bool, true, false, cond, ◌&&◌, eqb, List, sym, refl, ap, ◌∙◌, ⊎_elim, arith}
-use Rattle.std.proofs.lemmas.Bool.{cond-true, cond-false, cases_lt, lt-ltb, le-ltb}
+use Rattle.std.proofs.Common.{◌≡◌, ℕ, ◌+◌, ◌≤◌, Bool, true, false, cond, ◌&&◌, eqb, List, refl, ap, ◌∙◌, arith}
 use Rattle.controller.specs.declared.answer.Answer.TheVariants.{Accepted, Withdrawn, Noted}
 use Rattle.controller.specs.Meaning.{in_service}
 use Rattle.service.specs.Calls.{Call, Reply}
@@ -13,78 +12,49 @@ use Rattle.service.proofs.Moves.Move.{turned, rises, falls, opens, shuts, parks,
 use Rattle.service.proofs.Kept.{keep, fresh_kept}
 use Rattle.service.proofs.Service.{service-law}
 use Rattle.tally.specs.declared.Tally.{Tally}
-use Rattle.tally.specs.Counting.{none, more, more_if, ends, counted, outstanding}
+use Rattle.tally.specs.Counting.{none, more_if, ends, counted, outstanding}
 use Rattle.tally.specs.Keeping.{is_noted, kept, in_word, TallyLaw}
 
 -- Counts in 32 bits.
-small : (k : ℕ) → k ≤ 4294967295 → in_word k ≡ k
-small k h = ⊎_elim
-    (λ lt. cond-true _ _ _ (lt-ltb k 4294967295 lt))
-    (λ le. cond-false _ _ _ (le-ltb k 4294967295 le) ∙ (let e : 4294967295 ≡ k = omega arith in e))
-    (cases_lt k 4294967295)
-
-full : (k : ℕ) → 4294967295 ≤ k → in_word k ≡ 4294967295
-full k h = cond-false _ _ _ (le-ltb k 4294967295 h)
-
 more-small : (b : Bool) (x : ℕ) → x ≤ 4294967295 → more_if b x ≤ 4294967295
-more-small false x h = h
-more-small true x h = ⊎_elim
-    (λ lt. let e : more x ≡ x + 1 = cond-true _ _ _ (lt-ltb x 4294967295 lt) in omega arith)
-    (λ le. let e : more x ≡ x = cond-false _ _ _ (le-ltb x 4294967295 le) in omega arith)
-    (cases_lt x 4294967295)
+more-small b x h = grind arith
 
 more-sum : (b : Bool) (x k : ℕ) → x ≤ 4294967295 → in_word (more_if b x + k) ≡ in_word (x + (one b + k))
-more-sum false x k h = ap in_word (let e : x + k ≡ x + (0 + k) = omega arith in e)
-more-sum true x k h = ⊎_elim
-    (λ lt. let e : more x ≡ x + 1 = cond-true _ _ _ (lt-ltb x 4294967295 lt) in ap in_word (let f : more x + k ≡ x + (1 + k) = omega arith in f))
-    (λ le. let e : more x ≡ x = cond-false _ _ _ (le-ltb x 4294967295 le) in full (more x + k) (omega arith) ∙ sym (full (x + (1 + k)) (omega arith)))
-    (cases_lt x 4294967295)
+more-sum b x k h = grind arith
 
 -- A test of a noted reply, as a cond and as a conjunction.
-none-noted : (b : Bool) → cond b false false ≡ false
-none-noted true = refl
-none-noted false = refl
-
-noted-both : (b a : Bool) → cond b a false ≡ (a && b)
-noted-both true true = refl
-noted-both true false = refl
-noted-both false true = refl
-noted-both false false = refl
-
-noted-true : (b : Bool) → cond b true false ≡ b
-noted-true true = refl
-noted-true false = refl
+noted : (b a : Bool) → cond b a false ≡ (a && b)
+noted true true = refl
+noted true false = refl
+noted false true = refl
+noted false false = refl
 
 -- An answer of Accepted or Noted is no withdrawal, one of Withdrawn or Noted no acceptance.
 no-withdrawal : (b v : Bool) → cond b (is_withdrawn (cond v Accepted Noted)) false ≡ (is_withdrawn (cond v Accepted Noted) && false)
-no-withdrawal true true = refl
-no-withdrawal true false = refl
-no-withdrawal false true = refl
-no-withdrawal false false = refl
+no-withdrawal b true = noted b false
+no-withdrawal b false = noted b false
 
 no-acceptance : (b v : Bool) → cond b (is_accepted (cond v Withdrawn Noted)) false ≡ (is_accepted (cond v Withdrawn Noted) && false)
-no-acceptance true true = refl
-no-acceptance true false = refl
-no-acceptance false true = refl
-no-acceptance false false = refl
+no-acceptance b true = noted b false
+no-acceptance b false = noted b false
 
 -- What is noted of one call is what the law counts of it.
 accepts : (n : ℕ) (s s' : Snapshot) (c : Call) (r : Reply) → Move s c r s' → cond (is_noted n c) (answers is_accepted r) false ≡ (answers is_accepted r && may_accept n c)
-accepts n s s' c r (turned _ e) = none-noted (is_noted n c)
-accepts n s s' c r (rises j) = noted-both (eqb n j) _
+accepts n s s' c r (turned _ e) = noted (is_noted n c) false
+accepts n s s' c r (rises j) = noted (eqb n j) _
 accepts n s s' c r (falls j) = no-acceptance (eqb n j) _
 accepts n s s' c r (opens j) = refl
 accepts n s s' c r (shuts j out) = refl
 accepts n s s' c r (parks j) = refl
 accepts n s s' c r (idles h) = refl
 accepts n s s' c r (starts j f) = refl
-accepts n s s' c r (closes j top) = noted-both (eqb n j) _
-accepts n s s' c r (finishes j top) = noted-both (eqb n j) _
+accepts n s s' c r (closes j top) = noted (eqb n j) _
+accepts n s s' c r (finishes j top) = noted (eqb n j) _
 
 withdraws : (n : ℕ) (s s' : Snapshot) (c : Call) (r : Reply) → Move s c r s' → cond (is_noted n c) (answers is_withdrawn r) false ≡ (answers is_withdrawn r && may_withdraw n c)
-withdraws n s s' c r (turned _ e) = none-noted (is_noted n c)
+withdraws n s s' c r (turned _ e) = noted (is_noted n c) false
 withdraws n s s' c r (rises j) = no-withdrawal (eqb n j) _
-withdraws n s s' c r (falls j) = noted-both (eqb n j) _
+withdraws n s s' c r (falls j) = noted (eqb n j) _
 withdraws n s s' c r (opens j) = refl
 withdraws n s s' c r (shuts j out) = refl
 withdraws n s s' c r (parks j) = refl
@@ -94,16 +64,16 @@ withdraws n s s' c r (closes j top) = no-withdrawal (eqb n j) _
 withdraws n s s' c r (finishes j top) = no-withdrawal (eqb n j) _
 
 ending : (n : ℕ) (s s' : Snapshot) (c : Call) (r : Reply) → Move s c r s' → cond (is_noted n c) (ends r) false ≡ is_end n r
-ending n s s' c r (turned _ e) = none-noted (is_noted n c)
-ending n s s' c r (rises j) = none-noted (eqb n j)
-ending n s s' c r (falls j) = none-noted (eqb n j)
+ending n s s' c r (turned _ e) = noted (is_noted n c) false
+ending n s s' c r (rises j) = noted (eqb n j) false
+ending n s s' c r (falls j) = noted (eqb n j) false
 ending n s s' c r (opens j) = refl
 ending n s s' c r (shuts j out) = refl
 ending n s s' c r (parks j) = refl
 ending n s s' c r (idles h) = refl
 ending n s s' c r (starts j f) = refl
-ending n s s' c r (closes j top) = noted-true (eqb n j)
-ending n s s' c r (finishes j top) = noted-true (eqb n j)
+ending n s s' c r (closes j top) = noted (eqb n j) true
+ending n s s' c r (finishes j top) = noted (eqb n j) true
 
 -- One count f of a tally: a reply of which a holds is one more, and a noted one is what the law's test counts.
 module _ (n : ℕ) (f : Tally → ℕ) (a : Reply → Bool) (test : Call → Reply → Bool)
@@ -114,7 +84,7 @@ module _ (n : ℕ) (f : Tally → ℕ) (a : Reply → Bool) (test : Call → Rep
   noting false t r = refl
 
   along : {s s' : Snapshot} {cs : List Call} {rs : List Reply} → Kept s → Run s cs rs s' → (t : Tally) → f t ≤ 4294967295 → f (kept n t cs rs) ≡ in_word (f t + count test cs rs)
-  along k rest t h = sym (small (f t + 0) (omega arith) ∙ (let e : f t + 0 ≡ f t = omega arith in e))
+  along k rest t h = grind arith
   along {s} k (then {s₁ = x} {c = c} {r = r} {cs = cs} {rs = rs} step q) t h =
       let m : Move s c r x = view s x c r k step in
       let t' = cond (is_noted n c) (counted t r) t in
@@ -124,7 +94,7 @@ module _ (n : ℕ) (f : Tally → ℕ) (a : Reply → Bool) (test : Call → Rep
 
   -- From a count of 0 on.
   pub from-none : {s s' : Snapshot} {cs : List Call} {rs : List Reply} → Kept s → Run s cs rs s' → (t : Tally) → f t ≡ 0 → f (kept n t cs rs) ≡ in_word (count test cs rs)
-  from-none {cs = cs} {rs = rs} k q t zero = along k q t (omega arith) ∙ ap in_word (let e : f t + count test cs rs ≡ count test cs rs = omega arith in e)
+  from-none k q t zero = grind (arith, along k q t (omega arith))
 
 module _ (s s' : Snapshot) (cs : List Call) (rs : List Reply) (fresh : Fresh s) (q : Run s cs rs s') (n : ℕ) where
   accepting : (kept n none cs rs).accepted ≡ in_word (accepted n cs rs)
@@ -139,7 +109,7 @@ module _ (s s' : Snapshot) (cs : List Call) (rs : List Reply) (fresh : Fresh s) 
   left : s.meaning.fixed.line n ≡ true → accepted n cs rs ≤ 4294967295 → outstanding (kept n none cs rs) ≡ one (s'.meaning.state.waiting n) + one (in_service s'.meaning.state n)
   left line few =
       let even = (service-law s fresh).balance s' cs rs q n line in
-      omega (arith, even, accepting, withdrawing, ended_so, small (accepted n cs rs) few, small (withdrawn n cs rs) (omega (arith, even)), small (ended n cs rs) (omega (arith, even)))
+      grind (arith, even, accepting, withdrawing, ended_so)
 
 pub tally-law : TallyLaw
 tally-law s s' cs rs fresh q n = record {

@@ -4,14 +4,14 @@
 ghost use Rattle.std.specs.Prelude.{◌≡◌, ◌+◌, ◌-◌};
 ghost use Rattle.service.specs.Calls.{passed_on};
 ghost use Rattle.dispatch.specs.Replies.{finished_reply};
-ghost use Rattle.tally.specs.Counting.{none, counted, more};
+ghost use Rattle.tally.specs.Counting.{none, counted};
 ghost use Rattle.tally.specs.Keeping.{TallyLaw};
 
 use controller::{Answer, Refusal};
 use dispatch::Ended;
 
 // A count that has reached its greatest value stays there.
-#[derive(Clone, Copy)]
+#[derive(Clone, Copy, PartialEq, Eq, Debug, Default)]
 pub struct Tally {
     pub accepted: u32,
     pub withdrawn: u32,
@@ -24,11 +24,7 @@ impl Tally {
         ensures value { result ≡ none }
         ensures law { TallyLaw }
     {
-        Tally {
-            accepted: 0,
-            withdrawn: 0,
-            ended: 0,
-        }
+        Tally::default()
     }
 
     // Counts what a rise or a fall of the line brought back.
@@ -36,8 +32,8 @@ impl Tally {
         ensures { self.new ≡ counted self.old (passed_on answer) }
     {
         match answer {
-            Ok(Answer::Accepted) => self.accepted = more(self.accepted),
-            Ok(Answer::Withdrawn) => self.withdrawn = more(self.withdrawn),
+            Ok(Answer::Accepted) => self.accepted = self.accepted.saturating_add(1),
+            Ok(Answer::Withdrawn) => self.withdrawn = self.withdrawn.saturating_add(1),
             _ => {}
         }
     }
@@ -47,7 +43,7 @@ impl Tally {
         ensures { self.new ≡ counted self.old (finished_reply ended) }
     {
         if let Ok(end) = ended {
-            self.ended = more(self.ended);
+            self.ended = self.ended.saturating_add(1);
             self.note_answer(Ok(end.answer));
         }
     }
@@ -61,10 +57,4 @@ impl Tally {
             .saturating_sub(self.withdrawn)
             .saturating_sub(self.ended)
     }
-}
-
-fn more(count: u32) -> u32
-    ensures { result ≡ more count }
-{
-    if count < u32::MAX { count + 1 } else { count }
 }

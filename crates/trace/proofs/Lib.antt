@@ -6,3 +6,4 @@ pub mod Wholes
 pub mod Bits
 pub mod Encodings
 pub mod Covering
+pub mod Going

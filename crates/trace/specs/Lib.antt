@@ -4,3 +4,4 @@ pub mod Decoding
 pub mod Writing
 pub mod Inverse
 pub mod Whole
+pub mod Printing

@@ -1,10 +1,14 @@
 // The decoder: the acts that a record names.
-ghost use Rattle.std.specs.Prelude.{◌≡◌};
-ghost use Rattle.trace.specs.Decoding.{line, past, decoded, act_at};
+ghost use Rattle.std.specs.Prelude.{◌≡◌, [], ◌∷◌, Some};
+ghost use Rattle.std.specs.List.{flat_map};
+ghost use Rattle.std.specs.Option.{option_to_list};
+ghost use Rattle.trace.specs.Decoding.{line, past, decoded, act_at, in_order};
 ghost use Rattle.trace.specs.Inverse.{WrittenBack};
+ghost use Rattle.trace.specs.Printing.{act_text};
 
 use crate::map::{FALL, FINISH, OPEN, RISE, SHUT, TAKE, has};
 use crate::reader::Record;
+use std::fmt;
 
 #[derive(Clone, Copy, PartialEq, Eq, Debug)]
 pub enum Act {
@@ -16,8 +20,24 @@ pub enum Act {
     Finish,
 }
 
+// The act and its line, as "rise 5" or "take".
+impl fmt::Display for Act {
+    ghost output = { λ a. Some (act_text a) };
+
+    fn fmt<W: fmt::Write>(&self, f: &mut fmt::Formatter<W>) -> fmt::Result {
+        match self {
+            Act::Rise(n) => write!(f, "rise {n}"),
+            Act::Fall(n) => write!(f, "fall {n}"),
+            Act::Open(n) => write!(f, "open {n}"),
+            Act::Shut(n) => write!(f, "shut {n}"),
+            Act::Take => f.write_str("take"),
+            Act::Finish => f.write_str("finish"),
+        }
+    }
+}
+
 // The acts of one record, at most one of each kind, in the order in which they are done.
-#[derive(Clone, Copy, PartialEq, Eq, Debug)]
+#[derive(Clone, Copy, PartialEq, Eq, Debug, Default)]
 pub struct Acts {
     pub rise: Option<u8>,
     pub fall: Option<u8>,
@@ -42,6 +62,21 @@ impl Acts {
             _ => None,
         }
     }
+
+    // The act of each bit, in bit order.
+    pub fn in_order(&self) -> [Option<Act>; 6]
+        ensures bits { result ≡ act_at self.now 0 ∷ act_at self.now 1 ∷ act_at self.now 2 ∷ act_at self.now 3 ∷ act_at self.now 4 ∷ act_at self.now 5 ∷ [] }
+        ensures acts { flat_map option_to_list result ≡ in_order self.now }
+    {
+        [
+            self.at(RISE),
+            self.at(FALL),
+            self.at(OPEN),
+            self.at(SHUT),
+            self.at(TAKE),
+            self.at(FINISH),
+        ]
+    }
 }
 
 // The line at the front, where there is one, and what comes after it.
@@ -61,14 +96,7 @@ impl Record<'_> {
         ensures inverse { WrittenBack result self.now.bytes.now }
     {
         let [map, rest @ ..] = self.bytes else {
-            return Acts {
-                rise: None,
-                fall: None,
-                open: None,
-                shut: None,
-                take: false,
-                finish: false,
-            };
+            return Acts::default();
         };
         let map = *map;
         let (rise, rest) = field(has(map, RISE), rest);

@@ -16,5 +16,5 @@ pub fn record_length(map: u8) -> Option<usize>
     if map == 0 || map >= 64 {
         return None;
     }
-    Some(LENGTHS[(map / 16) as usize][(map % 16) as usize] as usize)
+    Some(usize::from(LENGTHS[usize::from(map / 16)][usize::from(map % 16)]))
 }

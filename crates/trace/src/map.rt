@@ -1,8 +1,9 @@
 // The map byte of a record: each set bit names an act.
 ghost use Rattle.std.specs.Prelude.{◌≡◌, ◌<◌};
-ghost use Rattle.trace.specs.Maps.{bit, count, act_count};
+ghost use Rattle.trace.specs.Maps.{bit, act_count};
 
-// The acts by their bits, in the order in which they are done. The first four have a line.
+// The acts by their bits, in the order in which they are done. The first four have a line. They are numbers and no enum,
+// since they are places in a byte, to shift by, and a caller may ask of any number.
 pub(crate) const RISE: u8 = 0;
 
 pub(crate) const FALL: u8 = 1;
@@ -18,7 +19,8 @@ pub(crate) const FINISH: u8 = 5;
 // How many bits of a map name an act.
 pub const ACT_BITS: u8 = 6;
 
-// Whether bit i of a map is set.
+// Whether bit i of a map is set. The 8259A asks the same of its levels: shared, it would be a public function that requires
+// something, and there is none.
 pub(crate) fn has(map: u8, i: u8) -> bool
     requires { i < 8 }
     ensures { result ≡ bit map i }
@@ -26,19 +28,9 @@ pub(crate) fn has(map: u8, i: u8) -> bool
     (map >> i) % 2 == 1
 }
 
-fn one_if(set: bool) -> usize
-    ensures { result ≡ count set }
-{
-    if set { 1 } else { 0 }
-}
-
-// How many acts a map names.
+// How many acts a map names: bits 6 and 7 name none.
 pub fn act_count(map: u8) -> usize
     ensures { result ≡ act_count map }
 {
-    let lines = one_if(has(map, RISE))
-        + one_if(has(map, FALL))
-        + one_if(has(map, OPEN))
-        + one_if(has(map, SHUT));
-    lines + one_if(has(map, TAKE)) + one_if(has(map, FINISH))
+    (map % 64).count_ones() as usize
 }

@@ -1,6 +1,5 @@
-use Rattle.std.proofs.Common.{refl}
 use Rattle.tally.proofs.Keeping.{tally-law}
 use Rattle.tally.proofs.Tally.new.Goals as goal
 
-pub returns : goal.returns
-returns c = record { value = refl; law = tally-law }
+pub returns-clause-law : goal.returns-clause-law
+returns-clause-law c = tally-law

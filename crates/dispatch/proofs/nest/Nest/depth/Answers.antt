@@ -1,7 +1,9 @@
-use Rattle.std.proofs.Common.{arith}
-use Rattle.dispatch.proofs.Tables.{depth-few}
+use Rattle.std.proofs.Common.{rules, ◌≡◌, ◌∙◌, sym}
+use Rattle.dispatch.specs.Tables.{within}
+use Rattle.dispatch.proofs.Tables.{length-backward}
 use Rattle.dispatch.proofs.nest.Nest.depth.Goals as goal
 
-pub returns-then-self-lt-MOST_DEPTH : goal.returns-then-self-lt-MOST_DEPTH
-returns-then-self-lt-MOST_DEPTH c =
-    let e = depth-few c.args.self.now.entries c.args.self.now.depth (omega arith) in record { counts = e.0; reads = e.1; few = omega arith }
+pub returns-clause-counts : goal.returns-clause-counts
+returns-clause-counts c =
+    let e : c.min.result ≡ within c.args.self.now.depth = search rules in
+    e ∙ sym (length-backward c.args.self.now.entries (within c.args.self.now.depth))

@@ -1,19 +1,20 @@
-use Rattle.std.proofs.Common.{◌≡◌, sym, ap, ◌∙◌, subst, arith}
-use Rattle.dispatch.specs.Tables.{atop, entries_of}
+use Rattle.std.proofs.Common.{sym, ap, ◌∙◌, subst, arith}
+use Rattle.std.proofs.lemmas.List.{get_or_append_left, get_or-take, length-take-le}
+use Rattle.service.specs.declared.entry.Mark.TheVariants.{Held}
+use Rattle.service.specs.Nests.{entry, parked_entry}
+use Rattle.dispatch.specs.Tables.{atop, entries_of, within}
 use Rattle.dispatch.specs.Claims.{OthersStayHeld}
-use Rattle.dispatch.proofs.Tables.{park-more, park-all, atop-parked}
+use Rattle.dispatch.proofs.Tables.{parked-table, atop-parked}
 use Rattle.dispatch.proofs.Held.{held-parked}
 use Rattle.dispatch.proofs.nest.Nest.park.Goals as goal
 
-pub loop-i-preserved : goal.loop-i-preserved
-loop-i-preserved c =
-    let p = park-more c.args.line c.loop-i.self.entries c.args.self.now.entries c.loop-i.i c.parked-entry.result (omega arith) c.parked-entry.ensures c.loop-i.invariant.1 c.loop-i.invariant.2 in
-    (c.loop-i.invariant.0, p.0, p.1)
-
 pub returns : goal.returns
 returns c =
-    let e : c.loop-i.i ≡ c.depth-depth.result = omega arith in
-    let p = park-all c.args.line c.loop-i.self.entries c.args.self.now.entries c.loop-i.i c.args.self.now.depth c.loop-i.self.depth c.loop-i.invariant.0 (e ∙ c.depth-depth.ensures.reads) c.loop-i.invariant.1 in
+    let p = parked-table c.args.line c.args.self.now.entries _ (within c.args.self.now.depth) (λ j l.
+    let few = length-take-le c.depth-depth.result c.args.self.now.entries (omega arith) in
+    get_or_append_left c.loop-entry.entry-items _ (entry 0 Held) j (omega arith)
+    ∙ c.loop-entry.invariant.marked j (omega arith)
+    ∙ ap (parked_entry c.args.line) (get_or-take c.depth-depth.result c.args.self.now.entries j (entry 0 Held) (omega arith))) in
     record {
       marks = p;
       lines = λ base. ap (λ es. atop es base) p ∙ atop-parked c.args.line _ base;

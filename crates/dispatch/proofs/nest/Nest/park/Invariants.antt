@@ -1,12 +1,11 @@
-use Rattle.std.proofs.Common.{◌≡◌, ℕ, ◌≤◌, get_or}
+use Rattle.std.proofs.Common.{◌≡◌, ℕ, ◌≤◌, ◌<◌, slice_index_or}
 use Rattle.service.specs.declared.entry.Mark.TheVariants.{Held}
-use Rattle.service.specs.Nests.{parked, entry}
-use Rattle.dispatch.specs.Tables.{backward}
+use Rattle.service.specs.Nests.{parked_entry, entry}
 use Rattle.dispatch.proofs.nest.Nest.park.Given as goal
 
 -- The places seen are marked, and the others as they were.
-abbrev pub invariant-loop-i : goal.invariant-loop-i
-invariant-loop-i l =
-    (l.self.depth ≡ l.initial.self.depth)
-    × (backward l.self.entries l.i ≡ parked l.line (backward l.initial.self.entries l.i))
-    × ((k : ℕ) → l.i ≤ k → get_or l.self.entries k (entry 0 Held) ≡ get_or l.initial.self.entries k (entry 0 Held))
+abbrev pub invariant-loop-entry : goal.invariant-loop-entry
+invariant-loop-entry l = record {
+  marked : (k : ℕ) → k < l.entry-index → slice_index_or l.entry-items k (entry 0 Held) ≡ parked_entry l.line (slice_index_or l.initial.entry-items k (entry 0 Held));
+  others : (k : ℕ) → l.entry-index ≤ k → slice_index_or l.entry-items k (entry 0 Held) ≡ slice_index_or l.initial.entry-items k (entry 0 Held);
+}
