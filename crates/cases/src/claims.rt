@@ -1,5 +1,5 @@
 // What a PLIC signals and claims while sources 5 and 9 are enabled and pending.
-use crate::outcome::{word, yes_or_no};
+use crate::outcome::Outcome;
 use crate::parts::{CLAIM_COMPLETE, ENABLE, THRESHOLD};
 use crate::report::{Case, topic};
 use plic::Plic;
@@ -33,9 +33,9 @@ impl Case for Levels {
     fn tell(&self, rt: &HostRuntime) -> io::Result<()> {
         let Levels(five, nine, threshold) = *self;
         let mut chip = asking(*self);
-        let signal = yes_or_no(chip.signal());
-        let first = word(chip.read(CLAIM_COMPLETE));
-        let second = word(chip.read(CLAIM_COMPLETE));
+        let signal = Outcome::from(chip.signal());
+        let first = Outcome::from(chip.read(CLAIM_COMPLETE));
+        let second = Outcome::from(chip.read(CLAIM_COMPLETE));
         println!(rt;
             "  priorities {five} and {nine}, threshold {threshold}: signal {signal}, claims {first} and {second}"
         )

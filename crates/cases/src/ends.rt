@@ -1,5 +1,5 @@
 // Every command of OCW2, given to an 8259A with levels 2 and 5 in service.
-use crate::outcome::done;
+use crate::outcome::Outcome;
 use crate::parts;
 use crate::report::{Case, topic};
 use i8259a::Register;
@@ -32,7 +32,7 @@ impl Case for Command {
         let mut chip = parts::chip();
         parts::serve(&mut chip, 5);
         parts::serve(&mut chip, 2);
-        let came = done(chip.write(0, byte));
+        let came = Outcome::from(chip.write(0, byte));
         let left = chip.look(Register::Isr);
         println!(rt; "  {what}, 0x{byte:02x}: {came}; in service 0b{left:08b}")
     }

@@ -1,5 +1,5 @@
 // The check whether two controllers can be hung together: its three questions, and their order.
-use crate::outcome::{Outcome, fits};
+use crate::outcome::Outcome;
 use crate::parts::plic_controller;
 use crate::report::{Case, topic};
 use cascade::{Cascade, check};
@@ -51,7 +51,7 @@ fn ask<O: Controller, I: Controller>(
         k,
         widths: (outer.width(), inner.width()),
         spans: (outer.span(), inner.span()),
-        came: fits(check(outer, k, inner)),
+        came: check(outer, k, inner).map(|()| Outcome::Fits).into(),
     }
 }
 

@@ -1,14 +1,14 @@
-// Claims that are out while other calls are made.
+// Claims that are out while other calls are made. dispatch_tests asserts what this prints.
 ghost use Rattle.std.specs.Prelude.{◌≡◌, true};
 ghost use Rattle.service.specs.Nests.{held};
 ghost use Rattle.dispatch.specs.Snapshots.{snapshot, Sound};
 
-use crate::outcome::{Outcome, Told, ended};
+use crate::outcome::{Outcome, Told};
 use crate::parts;
 use crate::report::topic;
 use crate::spend::{close_or_park, park, take_and_park};
 use controller::Controller;
-use dispatch::{Claim, Closed, Dispatcher, Parked, Taken};
+use dispatch::{Claim, Dispatcher, Refused, Taken};
 use i8259a_controller::I8259aController;
 use std::io;
 
@@ -54,23 +54,23 @@ fn interrupted<C: Controller>(unit: &mut Dispatcher<C>, outer: Claim) -> [Told; 
             claim: inner,
         } => {
             let line = inner.line();
-            told[0] = Told("take", Outcome::Start { line, depth });
-            told[1] = Told("finish 2", ended(unit.finish(2)));
-            told[2] = Told("finish 5", ended(unit.finish(5)));
+            told[0] = Told::new("take", Outcome::Start { line, depth });
+            told[1] = Told::new("finish 2", unit.finish(2));
+            told[2] = Told::new("finish 5", unit.finish(5));
             match unit.close(outer) {
-                Closed::End(end) => {
-                    told[3] = Told("close 5", Outcome::End(end));
+                Ok(end) => {
+                    told[3] = Told::new("close 5", end);
                     park(unit, inner);
                 }
-                Closed::Refused { why, claim } => {
-                    told[3] = Told("close 5", Outcome::Refused(why));
-                    told[4] = Told("close 2", close_or_park(unit, inner));
-                    told[5] = Told("close 5", close_or_park(unit, claim));
+                Err(Refused { why, claim }) => {
+                    told[3] = Told::new("close 5", Outcome::Refused(why));
+                    told[4] = Told::new("close 2", close_or_park(unit, inner));
+                    told[5] = Told::new("close 5", close_or_park(unit, claim));
                 }
             }
         }
         Taken::Spurious { depth } => {
-            told[0] = Told("take", Outcome::Spurious { depth });
+            told[0] = Told::new("take", Outcome::Spurious { depth });
             park(unit, outer);
         }
     }
@@ -93,24 +93,24 @@ fn lent<C: Controller>(unit: &mut Dispatcher<C>, other: &mut Dispatcher<C>) -> [
     match unit.take() {
         Taken::Start { depth, claim } => {
             let line = claim.line();
-            told[0] = Told("take", Outcome::Start { line, depth });
+            told[0] = Told::new("take", Outcome::Start { line, depth });
             match other.park(claim) {
-                Parked::Done => told[1] = Told("park at the other", Outcome::Done),
-                Parked::Refused { why, claim } => {
-                    told[1] = Told("park at the other", Outcome::Refused(why));
+                Ok(()) => told[1] = Told::new("park at the other", Outcome::Done),
+                Err(Refused { why, claim }) => {
+                    told[1] = Told::new("park at the other", Outcome::Refused(why));
                     match other.close(claim) {
-                        Closed::End(end) => {
-                            told[2] = Told("close at the other", Outcome::End(end));
+                        Ok(end) => {
+                            told[2] = Told::new("close at the other", end);
                         }
-                        Closed::Refused { why, claim } => {
-                            told[2] = Told("close at the other", Outcome::Refused(why));
-                            told[3] = Told("close", close_or_park(unit, claim));
+                        Err(Refused { why, claim }) => {
+                            told[2] = Told::new("close at the other", Outcome::Refused(why));
+                            told[3] = Told::new("close", close_or_park(unit, claim));
                         }
                     }
                 }
             }
         }
-        Taken::Spurious { depth } => told[0] = Told("take", Outcome::Spurious { depth }),
+        Taken::Spurious { depth } => told[0] = Told::new("take", Outcome::Spurious { depth }),
     }
     told
 }

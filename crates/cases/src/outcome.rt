@@ -1,4 +1,5 @@
-// What came back of a call, in one form that can be kept and printed.
+// What came back of a call, in one form that can be kept and printed: a table has calls of many kinds, so it is one enum and
+// not the result of each call.
 use crate::report::Case;
 use controller::{Answer, Refusal};
 use dispatch::Ended;
@@ -32,56 +33,67 @@ impl Case for Told {
     }
 }
 
-pub(crate) fn done(res: Result<(), Refusal>) -> Outcome {
-    match res {
-        Ok(()) => Outcome::Done,
-        Err(why) => Outcome::Refused(why),
+impl Told {
+    pub(crate) fn new<T: Into<Outcome>>(what: &'static str, came: T) -> Told {
+        Told(what, came.into())
     }
 }
 
-pub(crate) fn fits(res: Result<(), Refusal>) -> Outcome {
-    match res {
-        Ok(()) => Outcome::Fits,
-        Err(why) => Outcome::Refused(why),
+impl<T: Into<Outcome>> From<Result<T, Refusal>> for Outcome {
+    fn from(came: Result<T, Refusal>) -> Outcome {
+        match came {
+            Ok(value) => value.into(),
+            Err(why) => Outcome::Refused(why),
+        }
     }
 }
 
-pub(crate) fn byte(res: Result<u8, Refusal>) -> Outcome {
-    match res {
-        Ok(value) => Outcome::Number(u32::from(value)),
-        Err(why) => Outcome::Refused(why),
+impl From<()> for Outcome {
+    fn from((): ()) -> Outcome {
+        Outcome::Done
     }
 }
 
-pub(crate) fn word(res: Result<u32, Refusal>) -> Outcome {
-    match res {
-        Ok(value) => Outcome::Number(value),
-        Err(why) => Outcome::Refused(why),
+impl From<bool> for Outcome {
+    fn from(answer: bool) -> Outcome {
+        if answer { Outcome::Yes } else { Outcome::No }
     }
 }
 
-pub(crate) fn yes_or_no(answer: bool) -> Outcome {
-    if answer { Outcome::Yes } else { Outcome::No }
-}
-
-pub(crate) fn line(answer: Option<u16>) -> Outcome {
-    match answer {
-        Some(n) => Outcome::Number(u32::from(n)),
-        None => Outcome::Nothing,
+impl From<u8> for Outcome {
+    fn from(value: u8) -> Outcome {
+        Outcome::Number(u32::from(value))
     }
 }
 
-pub(crate) fn answered(res: Result<Answer, Refusal>) -> Outcome {
-    match res {
-        Ok(answer) => Outcome::Answered(answer),
-        Err(why) => Outcome::Refused(why),
+impl From<u16> for Outcome {
+    fn from(value: u16) -> Outcome {
+        Outcome::Number(u32::from(value))
     }
 }
 
-pub(crate) fn ended(res: Result<Ended, Refusal>) -> Outcome {
-    match res {
-        Ok(end) => Outcome::End(end),
-        Err(why) => Outcome::Refused(why),
+impl From<u32> for Outcome {
+    fn from(value: u32) -> Outcome {
+        Outcome::Number(value)
+    }
+}
+
+// A line, if there is one.
+impl From<Option<u16>> for Outcome {
+    fn from(line: Option<u16>) -> Outcome {
+        line.map_or(Outcome::Nothing, Outcome::from)
+    }
+}
+
+impl From<Answer> for Outcome {
+    fn from(answer: Answer) -> Outcome {
+        Outcome::Answered(answer)
+    }
+}
+
+impl From<Ended> for Outcome {
+    fn from(ended: Ended) -> Outcome {
+        Outcome::End(ended)
     }
 }
 
@@ -97,14 +109,7 @@ impl fmt::Display for Outcome {
             Outcome::Answered(answer) => write!(f, "{answer}"),
             Outcome::Start { line, depth } => write!(f, "START {line}, depth {depth}"),
             Outcome::Spurious { depth } => write!(f, "SPURIOUS, depth {depth}"),
-            Outcome::End(end) => {
-                let Ended {
-                    line,
-                    depth,
-                    answer,
-                } = end;
-                write!(f, "END {line}, depth {depth}, {answer}")
-            }
+            Outcome::End(end) => write!(f, "{end}"),
             Outcome::Record { length, place } => {
                 write!(f, "record of length {length} at place {place}")
             }

@@ -1,5 +1,5 @@
 // What piles answer: one of parts that fit, and one of parts that do not.
-use crate::outcome::{Outcome, Told, answered, line, yes_or_no};
+use crate::outcome::Told;
 use crate::parts::plic_controller;
 use crate::report::topic;
 use cascade::Cascade;
@@ -25,17 +25,17 @@ pub(crate) fn tell(rt: &HostRuntime) -> io::Result<()> {
 // Every question and every call, about line n.
 fn answers<C: Controller>(pile: &mut C, n: u16) -> [Told; 12] {
     [
-        Told("width", Outcome::Number(u32::from(pile.width()))),
-        Told("span", Outcome::Number(pile.span())),
-        Told("there", yes_or_no(pile.there(n))),
-        Told("fleeting", yes_or_no(pile.fleeting(n))),
-        Told("open", answered(pile.open(n))),
-        Told("rise", answered(pile.rise(n))),
-        Told("signal", yes_or_no(pile.signal())),
-        Told("take", line(pile.take())),
-        Told("newest", line(pile.newest())),
-        Told("shut", answered(pile.shut(n))),
-        Told("fall", answered(pile.fall(n))),
-        Told("finish", answered(pile.finish(n))),
+        Told::new("width", pile.width()),
+        Told::new("span", pile.span()),
+        Told::new("there", pile.there(n)),
+        Told::new("fleeting", pile.fleeting(n)),
+        Told::new("open", pile.open(n)),
+        Told::new("rise", pile.rise(n)),
+        Told::new("signal", pile.signal()),
+        Told::new("take", pile.take()),
+        Told::new("newest", pile.newest()),
+        Told::new("shut", pile.shut(n)),
+        Told::new("fall", pile.fall(n)),
+        Told::new("finish", pile.finish(n)),
     ]
 }

@@ -1,11 +1,11 @@
 // Calls on a dispatcher, from a table: each is printed with what it brought back.
-use crate::outcome::{Outcome, answered, ended};
+use crate::outcome::Outcome;
 use crate::spend::take_and_park;
 use controller::Controller;
 use dispatch::Dispatcher;
 use std::{fmt, io};
 
-// A take parks what it started.
+// A take parks what it started. Data and no closure, since a table's row is a constant and each call is printed.
 #[derive(Clone, Copy)]
 pub(crate) enum Call {
     Rise(u16),
@@ -31,12 +31,12 @@ impl fmt::Display for Call {
 
 fn perform<C: Controller>(unit: &mut Dispatcher<C>, call: Call) -> Outcome {
     match call {
-        Call::Rise(n) => answered(unit.rise(n)),
-        Call::Fall(n) => answered(unit.fall(n)),
-        Call::Open(n) => answered(unit.open(n)),
-        Call::Shut(n) => answered(unit.shut(n)),
+        Call::Rise(n) => unit.rise(n).into(),
+        Call::Fall(n) => unit.fall(n).into(),
+        Call::Open(n) => unit.open(n).into(),
+        Call::Shut(n) => unit.shut(n).into(),
         Call::Take => take_and_park(unit),
-        Call::Finish(n) => ended(unit.finish(n)),
+        Call::Finish(n) => unit.finish(n).into(),
     }
 }
 

@@ -1,5 +1,5 @@
 // Writes to an 8259A at each step of its set-up.
-use crate::outcome::{Told, byte, done};
+use crate::outcome::{Outcome, Told};
 use crate::parts;
 use crate::report::{Case, topic};
 use i8259a::I8259a;
@@ -45,7 +45,7 @@ pub(crate) fn tell(rt: &HostRuntime) -> io::Result<()> {
 impl Case for Write {
     fn tell(&self, rt: &HostRuntime) -> io::Result<()> {
         let Write(what, after, port, byte) = *self;
-        let came = done(begun(after).write(port, byte));
+        let came = Outcome::from(begun(after).write(port, byte));
         println!(rt; "  after {after} of 4 writes, {what}, 0x{byte:02x} to port {port}: {came}")
     }
 }
@@ -53,28 +53,22 @@ impl Case for Write {
 // A chip that was given so many writes of the set-up.
 fn begun(writes: usize) -> I8259a {
     let mut chip = I8259a::new();
-    for write in SET_UP.iter().take(writes) {
-        let (port, byte) = *write;
+    for (port, byte) in SET_UP.into_iter().take(writes) {
         let _ = chip.write(port, byte);
     }
     chip
 }
 
 fn calls() -> [Told; 8] {
-    let mut chip = I8259a::new();
-    let early = byte(chip.acknowledge());
-    chip = parts::chip();
+    let mut chip = parts::chip();
     [
-        Told("acknowledge of a new chip", early),
-        Told(
-            "acknowledge with no line high, level",
-            byte(chip.acknowledge()),
-        ),
-        Told("line 7 rises", done(chip.rise(7))),
-        Told("line 8 rises", done(chip.rise(8))),
-        Told("line 8 falls", done(chip.fall(8))),
-        Told("port 0 reads as", byte(chip.read(0))),
-        Told("port 1 reads as", byte(chip.read(1))),
-        Told("port 2 reads as", byte(chip.read(2))),
+        Told::new("acknowledge of a new chip", I8259a::new().acknowledge()),
+        Told::new("acknowledge with no line high, level", chip.acknowledge()),
+        Told::new("line 7 rises", chip.rise(7)),
+        Told::new("line 8 rises", chip.rise(8)),
+        Told::new("line 8 falls", chip.fall(8)),
+        Told::new("port 0 reads as", chip.read(0)),
+        Told::new("port 1 reads as", chip.read(1)),
+        Told::new("port 2 reads as", chip.read(2)),
     ]
 }

@@ -1,5 +1,5 @@
 // Whether an 8259A signals, and the level that an acknowledge names, while lines 1 and 4 are high.
-use crate::outcome::{byte, line, yes_or_no};
+use crate::outcome::Outcome;
 use crate::parts;
 use crate::report::{Case, topic};
 use std::io;
@@ -37,9 +37,9 @@ impl Case for Asked {
         let _ = chip.rise(1);
         let _ = chip.rise(4);
         let _ = chip.write(1, mask);
-        let newest = line(serving);
-        let signal = yes_or_no(chip.signal());
-        let level = byte(chip.acknowledge());
+        let newest = Outcome::from(serving);
+        let signal = Outcome::from(chip.signal());
+        let level = Outcome::from(chip.acknowledge());
         println!(rt;
             "  in service {newest}, mask 0x{mask:02x}: signal {signal}, acknowledge {level}"
         )

@@ -1,12 +1,13 @@
-// Ways to spend a claim.
+// Ways to spend a claim. What they require of it no public function may require, so the crates incident and dispatch_tests
+// have theirs.
 ghost use Rattle.std.specs.Prelude.{◌≡◌, true};
 ghost use Rattle.service.specs.Nests.{held};
 ghost use Rattle.dispatch.specs.Claims.{OthersStayHeld};
 ghost use Rattle.dispatch.specs.Snapshots.{snapshot};
 
 use crate::outcome::Outcome;
-use controller::Controller;
-use dispatch::{Claim, Closed, Dispatcher, Parked, Taken};
+use controller::{Controller, Refusal};
+use dispatch::{Claim, Dispatcher, Ended, Refused, Taken};
 
 // A claim that is held is parked without fail.
 pub(crate) fn park<C: Controller>(unit: &mut Dispatcher<C>, claim: Claim)
@@ -14,15 +15,17 @@ pub(crate) fn park<C: Controller>(unit: &mut Dispatcher<C>, claim: Claim)
     ensures { OthersStayHeld claim.line (snapshot C.Controller unit.old).nest (snapshot C.Controller unit.new).nest }
 {
     match unit.park(claim) {
-        Parked::Done => {}
-        Parked::Refused {
-            why: _,
-            claim: _back,
-        } => unreachable(),
+        Ok(()) => {}
+        Err(
+            Refused {
+                why: _,
+                claim: _back,
+            },
+        ) => unreachable(),
     }
 }
 
-// Takes, and parks what was started.
+// Takes, and parks what was started. dispatch_tests has the like: shared, it would be one more call of the dispatcher.
 pub(crate) fn take_and_park<C: Controller>(unit: &mut Dispatcher<C>) -> Outcome {
     match unit.take() {
         Taken::Start { depth, claim } => {
@@ -35,15 +38,18 @@ pub(crate) fn take_and_park<C: Controller>(unit: &mut Dispatcher<C>) -> Outcome 
 }
 
 // Closes, or parks what was not closed.
-pub(crate) fn close_or_park<C: Controller>(unit: &mut Dispatcher<C>, claim: Claim) -> Outcome
+pub(crate) fn close_or_park<C: Controller>(
+    unit: &mut Dispatcher<C>,
+    claim: Claim,
+) -> Result<Ended, Refusal>
     requires { held claim.line (snapshot C.Controller unit.old).nest ≡ true }
     ensures { OthersStayHeld claim.line (snapshot C.Controller unit.old).nest (snapshot C.Controller unit.new).nest }
 {
     match unit.close(claim) {
-        Closed::End(ended) => Outcome::End(ended),
-        Closed::Refused { why, claim } => {
+        Ok(ended) => Ok(ended),
+        Err(Refused { why, claim }) => {
             park(unit, claim);
-            Outcome::Refused(why)
+            Err(why)
         }
     }
 }

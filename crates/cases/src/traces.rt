@@ -1,6 +1,7 @@
 // What the reader answers to maps, cut records and whole traces.
 use crate::outcome::Outcome;
 use crate::report::{Case, topic};
+use controller::Refusal;
 use std::io;
 use trace::{Next, Reader, survey_trace};
 
@@ -77,21 +78,22 @@ impl Case for Trace {
         let survey = survey_trace(bytes);
         let records = survey.records;
         let done = survey.bytes;
-        let fault = match survey.fault {
-            Some(why) => Outcome::Refused(why),
-            None => Outcome::EndOfTrace,
-        };
-        println!(rt; "  {what}: records {records}, bytes {done}, then {fault}")
+        let end = ended(survey.fault);
+        println!(rt; "  {what}: records {records}, bytes {done}, then {end}")
     }
 }
 
 fn read(next: Next) -> Outcome {
-    match (next, next.fault()) {
-        (Next::Record(record), _) => Outcome::Record {
+    if let Next::Record(record) = next {
+        return Outcome::Record {
             length: record.bytes.len(),
             place: record.place,
-        },
-        (_, Some(why)) => Outcome::Refused(why),
-        (_, None) => Outcome::EndOfTrace,
+        };
     }
+    ended(next.fault())
+}
+
+// The end of a trace, or the fault before it.
+fn ended(fault: Option<Refusal>) -> Outcome {
+    fault.map_or(Outcome::EndOfTrace, Outcome::Refused)
 }

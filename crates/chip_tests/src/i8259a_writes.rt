@@ -1,5 +1,6 @@
 // Every byte to every port at every step of the set-up, against one table of rules.
-use crate::answer::{Answer, NO_SUCH_ADDRESS, NOT_MODELLED, NOT_SET_UP, done};
+use controller::Refusal;
+use controller::Refusal::{NoSuchAddress, NotModelled, NotSetUp};
 use i8259a::I8259a;
 use std::process::Abort;
 use std::test::Fail;
@@ -25,68 +26,68 @@ const STEPS: [Step; 5] = [
 const PORTS: [u8; 4] = [0, 1, 2, 255];
 
 // A step, or none for every step; a port; a pattern of the byte's bits 7 to 0, x for either; and the answer.
-struct Rule(Option<Step>, u8, &'static [u8; 8], Answer);
+struct Rule(Option<Step>, u8, &'static [u8; 8], Result<(), Refusal>);
 
-// The first rule that fits counts.
 const RULES: [Rule; 20] = [
-    Rule(None, 2, b"xxxxxxxx", NO_SUCH_ADDRESS),
-    Rule(None, 255, b"xxxxxxxx", NO_SUCH_ADDRESS),
+    Rule(None, 2, b"xxxxxxxx", Err(NoSuchAddress)),
+    Rule(None, 255, b"xxxxxxxx", Err(NoSuchAddress)),
     // ICW1
-    Rule(None, 0, b"xxx11x01", Answer::Done),
-    Rule(None, 0, b"xxx1xxxx", NOT_MODELLED),
+    Rule(None, 0, b"xxx11x01", Ok(())),
+    Rule(None, 0, b"xxx1xxxx", Err(NotModelled)),
     // before the set-up is complete
-    Rule(Some(Step::Icw1), 0, b"xxxxxxxx", NOT_SET_UP),
-    Rule(Some(Step::Icw2), 0, b"xxxxxxxx", NOT_SET_UP),
-    Rule(Some(Step::Icw3), 0, b"xxxxxxxx", NOT_SET_UP),
-    Rule(Some(Step::Icw4), 0, b"xxxxxxxx", NOT_SET_UP),
-    Rule(Some(Step::Icw1), 1, b"xxxxxxxx", NOT_SET_UP),
-    Rule(Some(Step::Icw2), 1, b"xxxxxxxx", Answer::Done),
-    Rule(Some(Step::Icw3), 1, b"xxxxxxxx", Answer::Done),
-    Rule(Some(Step::Icw4), 1, b"00000001", Answer::Done),
-    Rule(Some(Step::Icw4), 1, b"xxxxxxxx", NOT_MODELLED),
+    Rule(Some(Step::Icw1), 0, b"xxxxxxxx", Err(NotSetUp)),
+    Rule(Some(Step::Icw2), 0, b"xxxxxxxx", Err(NotSetUp)),
+    Rule(Some(Step::Icw3), 0, b"xxxxxxxx", Err(NotSetUp)),
+    Rule(Some(Step::Icw4), 0, b"xxxxxxxx", Err(NotSetUp)),
+    Rule(Some(Step::Icw1), 1, b"xxxxxxxx", Err(NotSetUp)),
+    Rule(Some(Step::Icw2), 1, b"xxxxxxxx", Ok(())),
+    Rule(Some(Step::Icw3), 1, b"xxxxxxxx", Ok(())),
+    Rule(Some(Step::Icw4), 1, b"00000001", Ok(())),
+    Rule(Some(Step::Icw4), 1, b"xxxxxxxx", Err(NotModelled)),
     // the mask
-    Rule(Some(Step::Nothing), 1, b"xxxxxxxx", Answer::Done),
+    Rule(Some(Step::Nothing), 1, b"xxxxxxxx", Ok(())),
     // OCW2
-    Rule(Some(Step::Nothing), 0, b"00100xxx", Answer::Done),
-    Rule(Some(Step::Nothing), 0, b"01000xxx", Answer::Done),
-    Rule(Some(Step::Nothing), 0, b"01100xxx", Answer::Done),
-    Rule(Some(Step::Nothing), 0, b"xxx00xxx", NOT_MODELLED),
+    Rule(Some(Step::Nothing), 0, b"00100xxx", Ok(())),
+    Rule(Some(Step::Nothing), 0, b"01000xxx", Ok(())),
+    Rule(Some(Step::Nothing), 0, b"01100xxx", Ok(())),
+    Rule(Some(Step::Nothing), 0, b"xxx00xxx", Err(NotModelled)),
     // OCW3
-    Rule(Some(Step::Nothing), 0, b"00x010xx", Answer::Done),
-    Rule(Some(Step::Nothing), 0, b"xxx01xxx", NOT_MODELLED),
+    Rule(Some(Step::Nothing), 0, b"00x010xx", Ok(())),
+    Rule(Some(Step::Nothing), 0, b"xxx01xxx", Err(NotModelled)),
 ];
 
-// Whether a byte has the bits of a pattern, from bit 0 up.
+// Whether a byte has the bits of a pattern, from bit 7 down.
 fn matches(pattern: &[u8; 8], byte: u8) -> bool {
-    let mut rest = byte;
-    for mark in pattern.iter().rev() {
-        let excluded = if rest % 2 == 1 { b'0' } else { b'1' };
-        if *mark == excluded {
-            return false;
-        }
-        rest /= 2;
-    }
-    true
+    pattern.iter().zip((0..8u8).rev()).all(|(mark, place)| match mark {
+        b'0' => (byte >> place) & 1 == 0,
+        b'1' => (byte >> place) & 1 == 1,
+        _ => true,
+    })
+}
+
+// A byte that is written to a port while the set-up waits at a step.
+#[derive(Clone, Copy, Debug)]
+struct Write {
+    step: Step,
+    port: u8,
+    byte: u8,
 }
 
 impl Rule {
-    fn fits(&self, step: Step, port: u8, byte: u8) -> bool {
+    fn fits(&self, write: Write) -> bool {
         let Rule(when, at, pattern, _) = self;
-        let in_time = match when {
-            Some(only) => *only == step,
-            None => true,
-        };
-        in_time && *at == port && matches(pattern, byte)
+        when.is_none_or(|only| only == write.step)
+            && *at == write.port
+            && matches(pattern, write.byte)
     }
 }
 
-fn expected(step: Step, port: u8, byte: u8) -> Result<Answer, Fail> {
-    for rule in RULES.iter() {
-        if rule.fits(step, port, byte) {
-            return Ok(rule.3);
-        }
-    }
-    Err(Fail::new("no rule fits"))
+// The first rule that fits counts.
+fn rule_for(write: Write) -> Result<&'static Rule, Fail> {
+    RULES
+        .iter()
+        .find(|rule| rule.fits(write))
+        .ok_or_else(|| Fail::new("no rule fits"))
 }
 
 // The set-up's writes, port and byte.
@@ -97,8 +98,8 @@ fn waiting(step: Step) -> Result<I8259a, Fail> {
     let mut chip = I8259a::new();
     chip.rise(2)?;
     chip.rise(5)?;
-    for (port, byte) in SET_UP.iter().take(step as usize) {
-        chip.write(*port, *byte)?;
+    for &(port, byte) in SET_UP.iter().take(step as usize) {
+        chip.write(port, byte)?;
     }
     Ok(chip)
 }
@@ -115,46 +116,34 @@ fn busy(step: Step) -> Result<I8259a, Fail> {
 }
 
 // The answer is the table's, and a refused write changes nothing.
-fn check_write(
-    rt: &impl Abort,
-    before: I8259a,
-    step: Step,
-    port: u8,
-    byte: u8,
-) -> Result<(), Fail> {
+fn check_write(rt: &impl Abort, before: I8259a, write: Write) -> Result<(), Fail> {
+    let Rule(.., expected) = rule_for(write)?;
     let mut chip = before;
-    let answer = done(chip.write(port, byte));
-    assert_eq!(rt;
-        answer,
-        expected(step, port, byte)?,
-        "{step:?}, port {port}, byte {byte}"
-    );
-    assert!(rt;
-        answer == Answer::Done || chip == before,
-        "{step:?}, port {port}, byte {byte}"
-    );
+    let answer = chip.write(write.port, write.byte);
+    let after = if expected.is_ok() { chip } else { before };
+    assert_eq!(rt; (answer, chip), (*expected, after), "{write:?}");
     Ok(())
 }
 
 fn check_port(rt: &impl Abort, step: Step, port: u8) -> Result<(), Fail> {
     let chip = busy(step)?;
     for byte in 0..=u8::MAX {
-        check_write(rt, chip, step, port, byte)?;
+        check_write(rt, chip, Write { step, port, byte })?;
     }
     Ok(())
 }
 
 fn check_step(rt: &impl Abort, step: Step) -> Result<(), Fail> {
-    for port in PORTS.iter() {
-        check_port(rt, step, *port)?;
+    for port in PORTS {
+        check_port(rt, step, port)?;
     }
     Ok(())
 }
 
 #[test]
 fn every_write_is_answered_by_the_rules(rt: HostRuntime) -> Result<(), Fail> {
-    for step in STEPS.iter() {
-        check_step(&rt, *step)?;
+    for step in STEPS {
+        check_step(&rt, step)?;
     }
     Ok(())
 }

@@ -2,16 +2,22 @@
 #![tactic(auto)]
 
 #[cfg(test)]
-mod answer;
+mod answers;
 #[cfg(test)]
 mod i8259a_scripts;
 #[cfg(test)]
 mod i8259a_writes;
+#[cfg(test)]
+mod levels;
+#[cfg(test)]
+mod offsets;
 #[cfg(test)]
 mod plic_registers;
 #[cfg(test)]
 mod plic_scripts;
 #[cfg(test)]
 mod refusals;
+#[cfg(test)]
+mod script;
 #[cfg(test)]
 mod winners;

@@ -1,14 +1,9 @@
 // Which offsets of a PLIC exist, and what its registers keep.
-use crate::answer::{Answer, NO_SUCH_ADDRESS, done, word};
+use crate::offsets::{ALL, CLAIM_COMPLETE, ENABLE};
+use controller::Refusal;
 use plic::Plic;
 use std::process::Abort;
 use std::test::Fail;
-
-const ENABLE: u32 = 0x00_2000;
-
-const CLAIM_COMPLETE: u32 = 0x20_0004;
-
-const ALL: u32 = 0xffff_ffff;
 
 // An offset of a PLIC with 64 numbers, and whether a register lies there.
 struct Place(u32, bool);
@@ -57,32 +52,24 @@ const PLACES: [Place; 36] = [
 ];
 
 fn check_place(rt: &impl Abort, chip: &mut Plic<64>, place: &Place) {
-    let Place(offset, exists) = place;
-    let (read, written) = if *exists {
-        (Answer::Value(0), Answer::Done)
-    } else {
-        (NO_SUCH_ADDRESS, NO_SUCH_ADDRESS)
-    };
-    assert_eq!(rt; word(chip.read(*offset)), read, "offset {offset}");
-    assert_eq!(rt; done(chip.write(*offset, 0)), written, "offset {offset}");
+    let &Place(offset, exists) = place;
+    let found = exists.then_some(()).ok_or(Refusal::NoSuchAddress);
+    assert_eq!(rt; chip.read(offset), found.map(|()| 0), "offset {offset}");
+    assert_eq!(rt; chip.write(offset, 0), found, "offset {offset}");
 }
 
 // How many offsets from 0 on, up to past the last register, can be read.
-fn readable<const N: usize>(chip: &mut Plic<N>) -> u32 {
-    let mut count = 0u32;
-    for offset in 0..0x20_2000 {
-        if chip.read(offset).is_ok() {
-            count = count.saturating_add(1);
-        }
-    }
-    count
+fn readable<const N: usize>(chip: &mut Plic<N>) -> usize {
+    (0..0x20_2000)
+        .filter(|offset| chip.read(*offset).is_ok())
+        .count()
 }
 
 // Each table of bits has a word for 32 numbers, and there are two more registers.
 #[test]
 fn offsets_exist_as_listed(rt: HostRuntime) {
     let mut chip = Plic::<64>::new();
-    for place in PLACES.iter() {
+    for place in &PLACES {
         check_place(&rt, &mut chip, place);
     }
     assert_eq!(rt; readable(&mut chip), 64 + 2 + 2 + 2);
@@ -117,20 +104,13 @@ const KEPT: [Kept; 18] = [
     Kept(0x20_0000, 7, 7),
 ];
 
-// What is read, twice in a row.
+// The same is read twice in a row.
 fn check_kept(rt: &impl Abort, chip: &mut Plic<64>, kept: &Kept) -> Result<(), Fail> {
-    let Kept(offset, written, read) = kept;
-    chip.write(*offset, *written)?;
-    assert_eq!(rt;
-        word(chip.read(*offset)),
-        Answer::Value(*read),
-        "{written} at offset {offset}"
-    );
-    assert_eq!(rt;
-        word(chip.read(*offset)),
-        Answer::Value(*read),
-        "{written} at offset {offset}"
-    );
+    let &Kept(offset, written, read) = kept;
+    chip.write(offset, written)?;
+    for _ in 0..2 {
+        assert_eq!(rt; chip.read(offset), Ok(read), "{written} at offset {offset}");
+    }
     Ok(())
 }
 
@@ -139,7 +119,7 @@ fn registers_keep_what_they_have_room_for(rt: HostRuntime) -> Result<(), Fail> {
     let mut chip = Plic::<64>::new();
     chip.rise(9)?;
     chip.rise(63)?;
-    for kept in KEPT.iter() {
+    for kept in &KEPT {
         check_kept(&rt, &mut chip, kept)?;
     }
     Ok(())
@@ -154,54 +134,41 @@ fn all_high() -> Result<Plic<64>, Fail> {
     Ok(chip)
 }
 
-fn write_priorities(chip: &mut Plic<64>, priority: u32) -> Result<(), Fail> {
-    for source in 1..64u32 {
-        chip.write(4 * source, priority)?;
-    }
-    Ok(())
-}
-
-fn check_only_claim(rt: &impl Abort, chip: &mut Plic<64>, source: u32, what: &str) {
-    assert!(rt; chip.signal(), "{what} of {source}");
-    assert_eq!(rt;
-        word(chip.read(CLAIM_COMPLETE)),
-        Answer::Value(source),
-        "{what} of {source}"
-    );
-    assert!(rt; !chip.signal(), "{what} of {source}");
-    assert_eq!(rt;
-        word(chip.read(CLAIM_COMPLETE)),
-        Answer::Value(0),
-        "{what} of {source}"
-    );
-}
-
 // All are enabled, and one has a priority.
-fn check_priority(rt: &impl Abort, source: u8) -> Result<(), Fail> {
-    let source = u32::from(source);
+fn one_with_priority(source: u8) -> Result<Plic<64>, Fail> {
     let mut chip = all_high()?;
     chip.write(ENABLE, ALL)?;
     chip.write(ENABLE + 4, ALL)?;
-    chip.write(4 * source, 1)?;
-    check_only_claim(rt, &mut chip, source, "priority");
-    Ok(())
+    chip.write(4 * u32::from(source), 1)?;
+    Ok(chip)
 }
 
 // All have a priority, and one is enabled.
-fn check_enable(rt: &impl Abort, source: u8) -> Result<(), Fail> {
-    let source = u32::from(source);
+fn one_enabled(source: u8) -> Result<Plic<64>, Fail> {
     let mut chip = all_high()?;
-    write_priorities(&mut chip, 7)?;
-    chip.write(ENABLE + 4 * (source / 32), 1 << (source % 32))?;
-    check_only_claim(rt, &mut chip, source, "enable bit");
-    Ok(())
+    for source in 1..64 {
+        chip.write(4 * source, 7)?;
+    }
+    chip.write(ENABLE + 4 * u32::from(source / 32), 1 << (source % 32))?;
+    Ok(chip)
+}
+
+fn check_only_claim(rt: &impl Abort, mut chip: Plic<64>, source: u8, what: &str) {
+    for (signals, claimed) in [(true, u32::from(source)), (false, 0)] {
+        assert_eq!(rt; chip.signal(), signals, "{what} of {source}");
+        assert_eq!(rt;
+            chip.read(CLAIM_COMPLETE),
+            Ok(claimed),
+            "{what} of {source}"
+        );
+    }
 }
 
 #[test]
 fn every_source_has_its_own_priority_and_enable_bit(rt: HostRuntime) -> Result<(), Fail> {
     for source in 1..64 {
-        check_priority(&rt, source)?;
-        check_enable(&rt, source)?;
+        check_only_claim(&rt, one_with_priority(source)?, source, "priority");
+        check_only_claim(&rt, one_enabled(source)?, source, "enable bit");
     }
     Ok(())
 }

@@ -20,11 +20,8 @@ const IN_ORDER: [Refusal; 14] = [
 
 #[test]
 fn refusals_count_from_one(rt: HostRuntime) {
-    let mut number = 0u8;
-    for refusal in IN_ORDER.iter() {
-        number = number.saturating_add(1);
+    for (number, refusal) in (1..=14).zip(&IN_ORDER) {
         assert_eq!(rt; refusal.number(), number);
-        assert!(rt; !refusal.text().is_empty(), "{}", number);
+        assert!(rt; !refusal.text().is_empty(), "{number}");
     }
-    assert_eq!(rt; number, 14);
 }

@@ -1,6 +1,7 @@
 // The arbitration tree against a plain scan, at several sizes and fillings of the leaves.
-use arbiter::{Level, Priority, winner};
-use std::alloc::Global;
+use arbiter::{Key, Level, Priority, winner};
+use std::alloc::{AllocError, Global};
+use std::iter::successors;
 use std::process::Abort;
 use std::test::Fail;
 
@@ -21,7 +22,7 @@ const FILLINGS: [Filling; 9] = [
     Filling(9, 16, 0xff),
 ];
 
-// A step of a linear congruential generator.
+// A step of a linear congruential generator, the one of dispatch_tests: crates of tests share no library.
 fn next(state: u32) -> u32 {
     state.wrapping_mul(1_664_525).wrapping_add(1_013_904_223)
 }
@@ -29,77 +30,42 @@ fn next(state: u32) -> u32 {
 // The leaf that a state of the generator stands for.
 fn leaf(state: u32, filled: u8, bits: u8) -> Option<u8> {
     let [_, _, choice, key] = state.to_le_bytes();
-    if choice % 16 < filled {
-        Some(key & bits)
-    } else {
-        None
-    }
+    (choice % 16 < filled).then_some(key & bits)
 }
 
-fn leaves(heap: Global, size: usize, filling: &Filling) -> Result<Vec<Option<u8>>, Fail> {
-    let Filling(seed, filled, bits) = filling;
-    let mut leaves = Vec::new(heap);
-    let mut state = *seed;
-    for _ in 0..size {
-        state = next(state);
-        leaves.push(leaf(state, *filled, *bits))?;
-    }
-    Ok(leaves)
-}
-
-// The leaves with their keys as levels.
-fn levels(heap: Global, leaves: &[Option<u8>]) -> Result<Vec<Option<Level>>, Fail> {
-    let mut levels = Vec::new(heap);
-    for leaf in leaves.iter() {
-        levels.push(match leaf {
-            Some(key) => Some(Level(*key)),
-            None => None,
-        })?;
-    }
-    Ok(levels)
-}
-
-// The leaves with their keys as priorities.
-fn priorities(heap: Global, leaves: &[Option<u8>]) -> Result<Vec<Option<Priority>>, Fail> {
-    let mut priorities = Vec::new(heap);
-    for leaf in leaves.iter() {
-        priorities.push(match leaf {
-            Some(key) => Some(Priority(*key)),
-            None => None,
-        })?;
-    }
-    Ok(priorities)
-}
-
-// Which key comes first.
-#[derive(Clone, Copy)]
-enum Order {
-    SmallerFirst,
-    GreaterFirst,
-}
-
-fn before(order: Order, key: u8, other: u8) -> bool {
-    match order {
-        Order::SmallerFirst => key < other,
-        Order::GreaterFirst => key > other,
-    }
+fn leaves(heap: Global, size: usize, filling: &Filling) -> Result<Vec<Option<u8>>, AllocError> {
+    let &Filling(seed, filled, bits) = filling;
+    successors(Some(next(seed)), |state| Some(next(*state)))
+        .take(size)
+        .map(|state| leaf(state, filled, bits))
+        .collect(heap)
 }
 
 // The first leaf whose key no other comes before, by a scan that keeps the best so far.
-fn scan(leaves: &[Option<u8>], order: Order) -> Option<usize> {
-    let mut first = None;
-    let mut best = None;
-    for (place, leaf) in leaves.iter().enumerate() {
-        best = match (*leaf, best) {
-            (Some(key), Some(other)) if !before(order, key, other) => best,
-            (Some(key), _) => {
-                first = Some(place);
-                Some(key)
-            }
-            (None, _) => best,
-        };
-    }
-    first
+fn scan<F: Fn(u8, u8) -> bool>(leaves: &[Option<u8>], before: F) -> Option<usize>
+    requires { F.IsAlwaysCallable before }
+{
+    leaves
+        .iter()
+        .enumerate()
+        .filter_map(|(place, leaf)| leaf.map(|key| (place, key)))
+        .reduce(|best, next| if before(next.1, best.1) { next } else { best })
+        .map(|(place, _)| place)
+}
+
+// What the tree finds over the leaves, with their keys of one kind.
+fn by_tree<K: Key + Copy, F: Fn(u8) -> K>(
+    heap: Global,
+    leaves: &[Option<u8>],
+    key: F,
+) -> Result<Option<usize>, AllocError>
+    requires { F.IsAlwaysCallable key }
+{
+    let keys = leaves
+        .iter()
+        .map(|leaf| leaf.map(|bits| key(bits)))
+        .collect::<Vec<_>>(heap)?;
+    Ok(winner(&keys))
 }
 
 fn check_filling(
@@ -109,17 +75,15 @@ fn check_filling(
     filling: &Filling,
 ) -> Result<(), Fail> {
     let leaves = leaves(heap, size, filling)?;
-    let levels = levels(heap, &leaves)?;
     assert_eq!(rt;
-        winner(&levels),
-        scan(&leaves, Order::SmallerFirst),
+        by_tree(heap, &leaves, Level)?,
+        scan(&leaves, |key, other| key < other),
         "{size} leaves from {}",
         filling.0
     );
-    let priorities = priorities(heap, &leaves)?;
     assert_eq!(rt;
-        winner(&priorities),
-        scan(&leaves, Order::GreaterFirst),
+        by_tree(heap, &leaves, Priority)?,
+        scan(&leaves, |key, other| key > other),
         "{size} leaves from {}",
         filling.0
     );
@@ -127,7 +91,7 @@ fn check_filling(
 }
 
 fn check_size(rt: &impl Abort, heap: Global, size: usize) -> Result<(), Fail> {
-    for filling in FILLINGS.iter() {
+    for filling in &FILLINGS {
         check_filling(rt, heap, size, filling)?;
     }
     Ok(())
@@ -135,8 +99,8 @@ fn check_size(rt: &impl Abort, heap: Global, size: usize) -> Result<(), Fail> {
 
 #[test]
 fn the_tree_finds_what_a_scan_finds(rt: HostRuntime) -> Result<(), Fail> {
-    for size in SIZES.iter() {
-        check_size(&rt, rt.alloc(), *size)?;
+    for size in SIZES {
+        check_size(&rt, rt.alloc(), size)?;
     }
     Ok(())
 }

@@ -2,8 +2,8 @@
 #![tactic(auto)]
 
 #[cfg(test)]
-mod outcome;
-#[cfg(test)]
 mod questions;
 #[cfg(test)]
 mod same_calls;
+#[cfg(test)]
+mod script;

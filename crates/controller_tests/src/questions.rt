@@ -1,5 +1,4 @@
 // What the units tell of themselves.
-use crate::outcome::{Outcome, said};
 use controller::Controller;
 use i8259a_controller::I8259aController;
 use plic_controller::PlicController;
@@ -10,11 +9,7 @@ fn check_lines<C: Controller>(rt: &impl Abort, unit: &C, lines: &[u16], fleeting
     for n in 0..300u16 {
         let expected = lines.contains(&n);
         assert_eq!(rt; unit.there(n), expected, "line {n}");
-        assert_eq!(rt;
-            said(unit.fleeting(n)),
-            said(expected && fleeting),
-            "fall rule of {n}"
-        );
+        assert_eq!(rt; unit.fleeting(n), expected && fleeting, "fall rule of {n}");
     }
 }
 

@@ -1,14 +1,16 @@
 // Random calls on every kind of unit, and the balance of each line counted from what was answered: once every line has
 // fallen and all is served, each request that was accepted was withdrawn or has ended.
-use crate::seen::Seen::{Answered, End, Spurious, Start};
-use crate::seen::{Seen, answered, finished, take_and_close, take_and_park};
+use crate::calls::{Call, Turn};
+use crate::random::Random;
+use crate::spend::{Took, take_and_park};
 use cascade::Cascade;
-use controller::Answer::{Accepted, Withdrawn};
 use controller::Controller;
 use dispatch::Dispatcher;
 use i8259a_controller::I8259aController;
 use plic_controller::PlicController;
+use std::array;
 use std::process::Abort;
+use tally::Tally;
 use units::old_unit;
 
 const CALLS: usize = 20_000;
@@ -16,124 +18,96 @@ const CALLS: usize = 20_000;
 // More numbers than any of these units has lines.
 const NUMBERS: u16 = 80;
 
-#[derive(Clone, Copy)]
-struct Counts {
-    accepted: u32,
-    withdrawn: u32,
-    ended: u32,
+// A dispatcher, and of each number the tally of what was answered.
+#[derive(Drop)]
+struct Counted<C> {
+    dispatcher: Dispatcher<C>,
+    tallies: [Tally; 256],
 }
 
-type Book = [Counts; 256];
-
-const NONE: Counts = Counts {
-    accepted: 0,
-    withdrawn: 0,
-    ended: 0,
-};
-
-// Counts what was answered of a line.
-fn count(book: &mut Book, n: u16, seen: Seen) {
-    if n >= 256 {
-        return;
-    }
-    let mut counts = book[n as usize];
-    match seen {
-        Answered(Accepted) => counts.accepted = counts.accepted.saturating_add(1),
-        Answered(Withdrawn) => counts.withdrawn = counts.withdrawn.saturating_add(1),
-        End(_, _, answer) => {
-            counts.ended = counts.ended.saturating_add(1);
-            if answer == Accepted {
-                counts.accepted = counts.accepted.saturating_add(1);
-            }
+impl<C: Controller> Counted<C> {
+    fn new(controller: C) -> Counted<C> {
+        Counted {
+            dispatcher: Dispatcher::new(controller),
+            tallies: [Tally::new(); 256],
         }
-        _ => {}
     }
-    book[n as usize] = counts;
-}
 
-// A take and at once the close of what it started.
-fn handle<C: Controller>(dispatcher: &mut Dispatcher<C>, book: &mut Book) {
-    if let (Start(line, _), end) = take_and_close(dispatcher) {
-        count(book, line, end);
-    }
-}
-
-fn finish_newest<C: Controller>(dispatcher: &mut Dispatcher<C>, book: &mut Book) {
-    if let Some(entry) = dispatcher.newest() {
-        let seen = finished(dispatcher.finish(entry.line));
-        count(book, entry.line, seen);
-    }
-}
-
-fn call<C: Controller>(dispatcher: &mut Dispatcher<C>, book: &mut Book, choice: u8, n: u16) {
-    match choice {
-        0..=4 => count(book, n, answered(dispatcher.rise(n))),
-        5..=6 => count(book, n, answered(dispatcher.fall(n))),
-        7..=8 => count(book, n, answered(dispatcher.open(n))),
-        9 => count(book, n, answered(dispatcher.shut(n))),
-        10..=11 => {
-            let _ = take_and_park(dispatcher);
+    fn call(&mut self, call: Call) {
+        let said = call.make(&mut self.dispatcher);
+        if let Some(line) = said.line()
+            && let Some(tally) = self.tallies.get_mut(usize::from(line))
+        {
+            said.note(tally);
         }
-        12 => handle(dispatcher, book),
-        _ => finish_newest(dispatcher, book),
     }
-}
 
-// Every line falls and is opened, what is in service is finished, and what still waits is served.
-fn drain<C: Controller>(dispatcher: &mut Dispatcher<C>, book: &mut Book) {
-    for n in 0..NUMBERS {
-        call(dispatcher, book, 5, n);
-        call(dispatcher, book, 7, n);
+    fn finish_newest(&mut self) {
+        if let Some(entry) = self.dispatcher.newest() {
+            self.call(Call::Finish(entry.line));
+        }
     }
-    for _ in 0..8 {
-        finish_newest(dispatcher, book);
+
+    // A number drawn at random picks the call: the ranges are the odds.
+    fn draw(&mut self, choice: u8, line: u16) {
+        match choice {
+            0..=4 => self.call(Call::Turn(Turn::Rise, line)),
+            5..=6 => self.call(Call::Turn(Turn::Fall, line)),
+            7..=8 => self.call(Call::Turn(Turn::Open, line)),
+            9 => self.call(Call::Turn(Turn::Shut, line)),
+            10..=11 => self.call(Call::Park),
+            12 => self.call(Call::Handle),
+            _ => self.finish_newest(),
+        }
     }
-    for _ in 0..NUMBERS {
-        handle(dispatcher, book);
+
+    // Every line falls and is opened, what is in service is finished, and what still waits is served.
+    fn drain(&mut self) {
+        for line in 0..NUMBERS {
+            self.call(Call::Turn(Turn::Fall, line));
+            self.call(Call::Turn(Turn::Open, line));
+        }
+        for _ in 0..8 {
+            self.finish_newest();
+        }
+        for _ in 0..NUMBERS {
+            self.call(Call::Handle);
+        }
+    }
+
+    // As many lines as are told were accepted now and then, and each balances.
+    fn check(&self, rt: &impl Abort, busy: usize) {
+        for tally in self.tallies.iter() {
+            assert_eq!(rt; tally.accepted, tally.withdrawn.saturating_add(tally.ended));
+        }
+        let used = self
+            .tallies
+            .iter()
+            .filter(|tally| tally.accepted > 0)
+            .count();
+        assert_eq!(rt; used, busy);
     }
 }
 
 fn balances<C: Controller + Drop>(rt: &impl Abort, controller: C, busy: usize) {
-    let mut dispatcher = Dispatcher::new(controller);
-    let mut book = [NONE; 256];
-    let mut state = 7u32;
-    for _ in 0..CALLS {
-        state = state.wrapping_mul(1_664_525).wrapping_add(1_013_904_223);
-        let [_, _, line, choice] = state.to_le_bytes();
-        call(
-            &mut dispatcher,
-            &mut book,
-            choice % 16,
-            u16::from(line) % NUMBERS,
-        );
+    let mut unit = Counted::new(controller);
+    for (choice, byte) in Random(7).take(CALLS) {
+        unit.draw(choice, u16::from(byte) % NUMBERS);
     }
-    drain(&mut dispatcher, &mut book);
-    assert_eq!(rt; take_and_park(&mut dispatcher), Spurious(0));
-    check_book(rt, &book, busy);
-}
-
-// As many lines as are told were accepted now and then, and each balances.
-fn check_book(rt: &impl Abort, book: &Book, busy: usize) {
-    let mut used = 0usize;
-    for counts in book.iter() {
-        assert_eq!(rt;
-            counts.accepted,
-            counts.withdrawn.saturating_add(counts.ended)
-        );
-        if counts.accepted > 0 {
-            used = used.saturating_add(1);
-        }
-    }
-    assert_eq!(rt; used, busy);
+    unit.drain();
+    assert_eq!(rt;
+        take_and_park(&mut unit.dispatcher),
+        Took::Spurious { depth: 0 }
+    );
+    unit.check(rt, busy);
 }
 
 // Sources 1 to 21, three to each priority.
 fn new_unit() -> PlicController {
-    let mut priorities = [0; 64];
-    for n in 1..22u8 {
-        priorities[n as usize] = 1 + n % 7;
-    }
-    PlicController::new(priorities)
+    PlicController::new(array::from_fn(|n| match n {
+        1..=21 => 1 + (n % 7) as u8,
+        _ => 0,
+    }))
 }
 
 #[test]

@@ -3,54 +3,52 @@ ghost use Rattle.std.specs.Prelude.{◌≡◌, true};
 ghost use Rattle.service.specs.Nests.{held};
 ghost use Rattle.dispatch.specs.Snapshots.{snapshot, Sound};
 
-use crate::seen::Seen::{Answered, End, Nothing, Start};
-use crate::seen::{
-    NOT_A_LINE, NOT_HELD, NOT_NEWEST, NOT_PARKED, Seen, close_or_park, end, finished, give_up,
-    take_and_park,
-};
-use controller::Answer::{Accepted, Done};
-use controller::Controller;
-use dispatch::{Claim, Closed, Dispatcher, Parked, Taken};
+use crate::spend::{Took, close_or_park, take_and_park};
+use controller::Answer::Accepted;
+use controller::{Controller, Refusal};
+use dispatch::{Claim, Dispatcher, Ended, Refused, Taken};
 use i8259a_controller::I8259aController;
+use std::process::Abort;
 use std::test::Fail;
 
-// An inner handler is started while the outer one holds its claim.
-fn interrupted<C: Controller>(dispatcher: &mut Dispatcher<C>, outer: Claim) -> [Seen; 7]
+// The end of a line that is still high.
+fn end(line: u16, depth: usize) -> Result<Ended, Refusal> {
+    Ok(Ended {
+        line,
+        depth,
+        answer: Accepted,
+    })
+}
+
+// Line 2 is started while the handler of line 5 holds its claim.
+fn interrupted<C: Controller>(rt: &impl Abort, dispatcher: &mut Dispatcher<C>, outer: Claim)
     requires sound { Sound C.Controller dispatcher.old }
     requires held { held outer.line (snapshot C.Controller dispatcher.old).nest ≡ true }
 {
-    let mut seen = [Nothing; 7];
     match dispatcher.take() {
         Taken::Start {
             depth,
             claim: inner,
         } => {
-            seen[0] = Start(inner.line(), depth);
-            seen[1] = finished(dispatcher.finish(2));
-            seen[2] = finished(dispatcher.finish(5));
-            seen[3] = finished(dispatcher.finish(9));
+            assert_eq!(rt; (inner.line(), depth), (2, 2));
+            assert_eq!(rt; dispatcher.finish(2), Err(Refusal::NotParked));
+            assert_eq!(rt; dispatcher.finish(5), Err(Refusal::NotNewest));
+            assert_eq!(rt; dispatcher.finish(9), Err(Refusal::NotALine));
             match dispatcher.close(outer) {
-                Closed::End(ended) => {
-                    seen[4] = end(ended);
-                    give_up(dispatcher, inner);
-                }
-                Closed::Refused { why, claim } => {
-                    seen[4] = Seen::Refused(why.number());
-                    seen[5] = close_or_park(dispatcher, inner);
-                    seen[6] = close_or_park(dispatcher, claim);
+                Ok(_) => panic!(rt; "line 5 was closed"),
+                Err(Refused { why, claim }) => {
+                    assert_eq!(rt; why, Refusal::NotNewest);
+                    assert_eq!(rt; close_or_park(dispatcher, inner), end(2, 2));
+                    assert_eq!(rt; close_or_park(dispatcher, claim), end(5, 1));
                 }
             }
         }
-        Taken::Spurious { depth } => {
-            seen[0] = Seen::Spurious(depth);
-            give_up(dispatcher, outer);
-        }
+        Taken::Spurious { depth: _ } => panic!(rt; "line 2 was not started"),
     }
-    seen
 }
 
 // Line 5 is started, and line 2 while its handler holds the claim.
-fn nested<C: Controller + Drop>(controller: C) -> [Seen; 7]
+fn nested<C: Controller + Drop>(rt: &impl Abort, controller: C)
     requires { C.Controller.sound controller }
 {
     let mut dispatcher = Dispatcher::new(controller);
@@ -60,49 +58,39 @@ fn nested<C: Controller + Drop>(controller: C) -> [Seen; 7]
     match dispatcher.take() {
         Taken::Start { depth: _, claim } => {
             let _ = dispatcher.rise(2);
-            interrupted(&mut dispatcher, claim)
+            interrupted(rt, &mut dispatcher, claim);
         }
-        Taken::Spurious { depth: _ } => [Nothing; 7],
+        Taken::Spurious { depth: _ } => panic!(rt; "line 5 was not started"),
     }
 }
 
 // A claim at a dispatcher that did not start its line.
-fn strayed<C: Controller>(dispatcher: &mut Dispatcher<C>, other: &mut Dispatcher<C>) -> [Seen; 3] {
-    let mut seen = [Nothing; 3];
+fn strayed<C: Controller>(
+    rt: &impl Abort,
+    dispatcher: &mut Dispatcher<C>,
+    other: &mut Dispatcher<C>,
+) {
     match dispatcher.take() {
         Taken::Start { depth: _, claim } => match other.park(claim) {
-            Parked::Done => seen[0] = Answered(Done),
-            Parked::Refused { why, claim } => {
-                seen[0] = Seen::Refused(why.number());
+            Ok(()) => panic!(rt; "the other parked line 3"),
+            Err(Refused { why, claim }) => {
+                assert_eq!(rt; why, Refusal::NotHeld);
                 match other.close(claim) {
-                    Closed::End(ended) => seen[1] = end(ended),
-                    Closed::Refused { why, claim } => {
-                        seen[1] = Seen::Refused(why.number());
-                        seen[2] = close_or_park(dispatcher, claim);
+                    Ok(_) => panic!(rt; "the other closed line 3"),
+                    Err(Refused { why, claim }) => {
+                        assert_eq!(rt; why, Refusal::NotHeld);
+                        assert_eq!(rt; close_or_park(dispatcher, claim), end(3, 1));
                     }
                 }
             }
         },
-        Taken::Spurious { depth: _ } => {}
+        Taken::Spurious { depth: _ } => panic!(rt; "line 3 was not started"),
     }
-    seen
 }
 
 #[test]
 fn handlers_nest(rt: HostRuntime) {
-    let expected = [
-        Start(2, 2),
-        NOT_PARKED,
-        NOT_NEWEST,
-        NOT_A_LINE,
-        NOT_NEWEST,
-        End(2, 2, Accepted),
-        End(5, 1, Accepted),
-    ];
-    let seen = nested(I8259aController::new());
-    for place in 0..7 {
-        assert_eq!(rt; seen[place], expected[place], "{}", place);
-    }
+    nested(&rt, I8259aController::new());
 }
 
 #[test]
@@ -115,11 +103,11 @@ fn a_stray_claim_is_not_held(rt: HostRuntime) -> Result<(), Fail> {
     dispatcher.rise(3)?;
     other.open(3)?;
     other.rise(3)?;
-    assert_eq!(rt; take_and_park(&mut other), Start(3, 1));
-    let seen = strayed(&mut dispatcher, &mut other);
-    assert_eq!(rt; seen[0], NOT_HELD);
-    assert_eq!(rt; seen[1], NOT_HELD);
-    assert_eq!(rt; seen[2], End(3, 1, Accepted));
-    assert_eq!(rt; finished(other.finish(3)), End(3, 1, Accepted));
+    assert_eq!(rt;
+        take_and_park(&mut other),
+        Took::Start { line: 3, depth: 1 }
+    );
+    strayed(&rt, &mut dispatcher, &mut other);
+    assert_eq!(rt; other.finish(3), end(3, 1));
     Ok(())
 }

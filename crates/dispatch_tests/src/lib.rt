@@ -4,10 +4,16 @@
 #[cfg(test)]
 mod balance;
 #[cfg(test)]
+mod calls;
+#[cfg(test)]
 mod claims;
 #[cfg(test)]
 mod model;
 #[cfg(test)]
 mod nesting;
 #[cfg(test)]
-mod seen;
+mod printed;
+#[cfg(test)]
+mod random;
+#[cfg(test)]
+mod spend;

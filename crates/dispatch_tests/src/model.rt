@@ -1,244 +1,240 @@
 // Random calls against a plain model of eight lines, and after each call the balance of every line: what was accepted was
 // withdrawn, has ended, waits or is in service.
-ghost use Rattle.std.specs.Prelude.{◌<◌};
+ghost use Rattle.std.specs.Prelude.{◌<◌, IfSome};
 
-use crate::seen::Seen::{Answered, End, Nothing, Spurious, Start};
-use crate::seen::{
-    IN_SERVICE, NOT_A_LINE, NOT_NEWEST, Seen, answered, finished, take_and_close, take_and_park,
-};
+use crate::calls::{Call, Said, Turn};
+use crate::random::Random;
+use crate::spend::{Served, Took, take_and_park};
 use controller::Answer::{Accepted, Done, Noted, Withdrawn};
-use controller::Controller;
-use dispatch::Dispatcher;
+use controller::{Answer, Controller, Refusal};
+use dispatch::{Dispatcher, Ended};
 use i8259a_controller::I8259aController;
 use std::process::Abort;
+use tally::Tally;
 
 const CALLS: usize = 4000;
 
-// A line of the model, and how often the dispatcher said that it was accepted, was withdrawn, and has ended.
-#[derive(Clone, Copy)]
+// A line of the model, and the tally of what the dispatcher said of it.
+#[derive(Clone, Copy, Default)]
 struct Line {
     open: bool,
     high: bool,
     waiting: bool,
     serving: bool,
-    accepted: u32,
-    withdrawn: u32,
-    ended: u32,
+    tally: Tally,
 }
 
-const IDLE: Line = Line {
-    open: false,
-    high: false,
-    waiting: false,
-    serving: false,
-    accepted: 0,
-    withdrawn: 0,
-    ended: 0,
-};
+impl Line {
+    fn rise(&mut self) -> Result<Answer, Refusal> {
+        self.high = true;
+        if self.waiting || self.serving {
+            return Ok(Noted);
+        }
+        self.waiting = true;
+        Ok(Accepted)
+    }
 
-// A step of a linear congruential generator.
-fn next(state: u32) -> u32 {
-    state.wrapping_mul(1_664_525).wrapping_add(1_013_904_223)
+    fn fall(&mut self) -> Result<Answer, Refusal> {
+        self.high = false;
+        if !self.waiting {
+            return Ok(Noted);
+        }
+        self.waiting = false;
+        Ok(Withdrawn)
+    }
+
+    fn open(&mut self) -> Result<Answer, Refusal> {
+        self.open = true;
+        Ok(Done)
+    }
+
+    fn shut(&mut self) -> Result<Answer, Refusal> {
+        if self.serving {
+            return Err(Refusal::InService);
+        }
+        self.open = false;
+        Ok(Done)
+    }
+
+    fn turn(&mut self, turn: Turn) -> Result<Answer, Refusal> {
+        match turn {
+            Turn::Rise => self.rise(),
+            Turn::Fall => self.fall(),
+            Turn::Open => self.open(),
+            Turn::Shut => self.shut(),
+        }
+    }
+
+    fn balances(&self) -> bool {
+        let Tally {
+            accepted,
+            withdrawn,
+            ended,
+        } = self.tally;
+        accepted
+            == withdrawn
+                .saturating_add(ended)
+                .saturating_add(u32::from(self.waiting))
+                .saturating_add(u32::from(self.serving))
+    }
 }
 
 // The line of the smallest level in service, which is the newest.
 fn newest(lines: &[Line; 8]) -> Option<usize> {
-    for n in 0..8 {
-        if lines[n].serving {
-            return Some(n);
-        }
-    }
-    None
+    lines.iter().position(|line| line.serving)
 }
 
 fn depth(lines: &[Line; 8]) -> usize {
-    let mut depth = 0usize;
-    for line in lines.iter() {
-        if line.serving {
-            depth = depth.saturating_add(1);
-        }
-    }
-    depth
+    lines.iter().filter(|line| line.serving).count()
 }
 
 // The open waiting line of the smallest level, if it is below every level in service.
-fn first_ready(lines: &[Line; 8]) -> Option<usize> {
-    for n in 0..8 {
-        if lines[n].serving {
-            return None;
-        }
-        if lines[n].open && lines[n].waiting {
-            return Some(n);
-        }
-    }
-    None
+fn first_ready(lines: &[Line; 8]) -> Option<usize>
+    ensures { IfSome result (λ n. n < 8) }
+{
+    lines
+        .iter()
+        .take_while(|line| !line.serving)
+        .position(|line| line.open && line.waiting)
 }
 
-fn rise(line: &mut Line) -> Seen {
-    line.high = true;
-    if line.waiting || line.serving {
-        return Answered(Noted);
-    }
-    line.waiting = true;
-    Answered(Accepted)
-}
-
-fn fall(line: &mut Line) -> Seen {
-    line.high = false;
-    if !line.waiting {
-        return Answered(Noted);
-    }
-    line.waiting = false;
-    Answered(Withdrawn)
-}
-
-fn shut(line: &mut Line) -> Seen {
-    if line.serving {
-        return IN_SERVICE;
-    }
-    line.open = false;
-    Answered(Done)
-}
-
-fn take(lines: &mut [Line; 8]) -> Seen {
+fn take(lines: &mut [Line; 8]) -> Took {
     match first_ready(lines) {
-        Some(n) if n < 8 => {
+        Some(n) => {
             lines[n].waiting = false;
             lines[n].serving = true;
-            Start(n as u16, depth(lines))
-        }
-        _ => Spurious(depth(lines)),
-    }
-}
-
-fn finish(lines: &mut [Line; 8], n: usize) -> Seen
-    requires { n < 8 }
-{
-    if newest(lines) != Some(n) {
-        return NOT_NEWEST;
-    }
-    let depth = depth(lines);
-    lines[n].serving = false;
-    lines[n].waiting = lines[n].high;
-    End(
-        n as u16,
-        depth,
-        if lines[n].high { Accepted } else { Noted },
-    )
-}
-
-// Counts what the dispatcher said of the line.
-fn count(line: &mut Line, seen: Seen) {
-    match seen {
-        Answered(Accepted) => line.accepted = line.accepted.saturating_add(1),
-        Answered(Withdrawn) => line.withdrawn = line.withdrawn.saturating_add(1),
-        End(_, _, answer) => {
-            line.ended = line.ended.saturating_add(1);
-            if answer == Accepted {
-                line.accepted = line.accepted.saturating_add(1);
+            Took::Start {
+                line: n as u16,
+                depth: depth(lines),
             }
         }
-        _ => {}
+        None => Took::Spurious {
+            depth: depth(lines),
+        },
     }
 }
 
-fn balanced(line: &Line) -> bool {
-    let gone = line.withdrawn.saturating_add(line.ended);
-    let waiting = u32::from(line.waiting);
-    let serving = u32::from(line.serving);
-    line.accepted == gone.saturating_add(waiting).saturating_add(serving)
+fn line_of(lines: &mut [Line; 8], number: u16) -> Result<&mut Line, Refusal> {
+    lines.get_mut(usize::from(number)).ok_or(Refusal::NotALine)
+}
+
+fn turn(lines: &mut [Line; 8], turn: Turn, number: u16) -> Result<Answer, Refusal> {
+    line_of(lines, number)?.turn(turn)
+}
+
+fn finish(lines: &mut [Line; 8], number: u16) -> Result<Ended, Refusal> {
+    let depth = depth(lines);
+    let newest = newest(lines);
+    let line = line_of(lines, number)?;
+    if newest != Some(usize::from(number)) {
+        return Err(Refusal::NotNewest);
+    }
+    line.serving = false;
+    line.waiting = line.high;
+    Ok(Ended {
+        line: number,
+        depth,
+        // Not by `Answer::accepted_if`, with which the controllers answer.
+        answer: if line.high { Accepted } else { Noted },
+    })
 }
 
 // A take and at once the close of what it started.
-fn handle(
-    rt: &impl Abort,
-    dispatcher: &mut Dispatcher<I8259aController>,
-    lines: &mut [Line; 8],
-    place: usize,
-) {
-    let (start, end) = take_and_close(dispatcher);
-    assert_eq!(rt; start, take(lines), "call {place}");
-    match start {
-        Start(line, _) if line < 8 => {
-            let n = usize::from(line);
-            assert_eq!(rt; end, finish(lines, n), "call {place}");
-            count(&mut lines[n], end);
+fn handle(lines: &mut [Line; 8]) -> Served {
+    match take(lines) {
+        Took::Start { line, depth } => {
+            let end = finish(lines, line);
+            Served::Start { line, depth, end }
         }
-        _ => assert_eq!(rt; end, Nothing, "call {place}"),
+        Took::Spurious { depth } => Served::Spurious { depth },
     }
 }
 
-// One call of line n, or a take, the call at that place; the dispatcher and the model say the same.
-fn call(
-    rt: &impl Abort,
-    dispatcher: &mut Dispatcher<I8259aController>,
-    lines: &mut [Line; 8],
-    choice: u8,
-    n: usize,
-    place: usize,
-)
-    requires { n < 8 }
-{
-    let number = n as u16;
-    let (seen, expected) = match choice {
-        0..=3 => (answered(dispatcher.rise(number)), rise(&mut lines[n])),
-        4..=5 => (answered(dispatcher.fall(number)), fall(&mut lines[n])),
-        6..=7 => {
-            lines[n].open = true;
-            (answered(dispatcher.open(number)), Answered(Done))
-        }
-        8 => (answered(dispatcher.shut(number)), shut(&mut lines[n])),
-        9..=10 => (take_and_park(dispatcher), take(lines)),
-        11 => {
-            handle(rt, dispatcher, lines, place);
-            (Nothing, Nothing)
-        }
-        12 => (
-            finished(dispatcher.finish(number.saturating_add(8))),
-            NOT_A_LINE,
-        ),
-        _ => (finished(dispatcher.finish(number)), finish(lines, n)),
-    };
-    assert_eq!(rt; seen, expected, "call {place}");
-    count(&mut lines[n], seen);
-    for line in lines.iter() {
-        assert!(rt; balanced(line), "call {place}");
+// What the model says of a call.
+fn expected(lines: &mut [Line; 8], call: Call) -> Said {
+    match call {
+        Call::Turn(what, line) => Said::Answer(line, turn(lines, what, line)),
+        Call::Park => Said::Took(take(lines)),
+        Call::Handle => Said::Served(handle(lines)),
+        Call::Finish(line) => Said::End(line, finish(lines, line)),
     }
-    assert_eq!(rt; dispatcher.depth(), depth(lines), "call {place}");
 }
 
-// Every line falls and every line in service is finished: then each request was withdrawn or has ended.
-fn drained(rt: &impl Abort, dispatcher: &mut Dispatcher<I8259aController>, lines: &mut [Line; 8]) {
-    for n in 0..8 {
-        call(rt, dispatcher, lines, 4, n, CALLS);
-        call(rt, dispatcher, lines, 6, n, CALLS);
+// What two numbers drawn at random call: the ranges are the odds. Once in 16 a number that is no line is finished.
+fn drawn(choice: u8, byte: u8) -> Call {
+    let line = u16::from(byte % 8);
+    match choice {
+        0..=3 => Call::Turn(Turn::Rise, line),
+        4..=5 => Call::Turn(Turn::Fall, line),
+        6..=7 => Call::Turn(Turn::Open, line),
+        8 => Call::Turn(Turn::Shut, line),
+        9..=10 => Call::Park,
+        11 => Call::Handle,
+        12 => Call::Finish(line + 8),
+        _ => Call::Finish(line),
     }
-    for n in 0..8 {
-        call(rt, dispatcher, lines, 13, n, CALLS);
+}
+
+// The dispatcher and the model, of which every call is made; the two say the same.
+#[derive(Drop)]
+struct Twin {
+    dispatcher: Dispatcher<I8259aController>,
+    lines: [Line; 8],
+}
+
+impl Twin {
+    fn new() -> Twin {
+        Twin {
+            dispatcher: Dispatcher::new(I8259aController::new()),
+            lines: [Line::default(); 8],
+        }
     }
-    assert_eq!(rt; take_and_park(dispatcher), Spurious(0));
-    for line in lines.iter() {
-        assert!(rt; line.accepted > 0);
-        assert_eq!(rt; line.accepted, line.withdrawn.saturating_add(line.ended));
+
+    // The call at that place.
+    fn call(&mut self, rt: &impl Abort, call: Call, place: usize) {
+        let said = call.make(&mut self.dispatcher);
+        assert_eq!(rt; said, expected(&mut self.lines, call), "call {place}");
+        if let Some(number) = said.line()
+            && let Ok(line) = line_of(&mut self.lines, number)
+        {
+            said.note(&mut line.tally);
+        }
+        for line in self.lines.iter() {
+            assert!(rt; line.balances(), "call {place}");
+        }
+        assert_eq!(rt; self.dispatcher.depth(), depth(&self.lines), "call {place}");
+    }
+
+    // Every line falls and every line in service is finished: then each request was withdrawn or has ended.
+    fn drain(&mut self, rt: &impl Abort) {
+        for line in 0..8 {
+            self.call(rt, Call::Turn(Turn::Fall, line), CALLS);
+            self.call(rt, Call::Turn(Turn::Open, line), CALLS);
+        }
+        for line in 0..8 {
+            self.call(rt, Call::Finish(line), CALLS);
+        }
+        assert_eq!(rt;
+            take_and_park(&mut self.dispatcher),
+            Took::Spurious { depth: 0 }
+        );
+        for line in self.lines.iter() {
+            let Tally {
+                accepted,
+                withdrawn,
+                ended,
+            } = line.tally;
+            assert!(rt; accepted > 0);
+            assert_eq!(rt; accepted, withdrawn.saturating_add(ended));
+        }
     }
 }
 
 #[test]
 fn random_calls_balance(rt: HostRuntime) {
-    let mut dispatcher = Dispatcher::new(I8259aController::new());
-    let mut lines = [IDLE; 8];
-    let mut state = 1u32;
-    for place in 0..CALLS {
-        state = next(state);
-        let [_, _, line, choice] = state.to_le_bytes();
-        call(
-            &rt,
-            &mut dispatcher,
-            &mut lines,
-            choice % 16,
-            usize::from(line % 8),
-            place,
-        );
+    let mut twin = Twin::new();
+    for (place, (choice, byte)) in Random(1).take(CALLS).enumerate() {
+        twin.call(&rt, drawn(choice, byte), place);
     }
-    drained(&rt, &mut dispatcher, &mut lines);
+    twin.drain(&rt);
 }

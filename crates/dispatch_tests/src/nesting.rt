@@ -1,9 +1,8 @@
 // The deepest nest: every level is started above a larger one, and the ninth take is spurious.
-use crate::seen::Seen::{Answered, End, Spurious, Start};
-use crate::seen::{IN_SERVICE, NOT_NEWEST, answered, finished, take_and_park};
+use crate::spend::{Took, take_and_park};
 use controller::Answer::{Accepted, Done, Noted};
-use controller::Controller;
-use dispatch::{Dispatcher, Entry, Mark};
+use controller::{Controller, Refusal};
+use dispatch::{Dispatcher, Ended, Entry, Mark};
 use i8259a_controller::I8259aController;
 use std::process::Abort;
 
@@ -19,40 +18,43 @@ const LEVELS: [(u16, usize); 8] = [
     (0, 8),
 ];
 
-fn start(rt: &impl Abort, dispatcher: &mut Dispatcher<I8259aController>, n: u16, depth: usize) {
-    assert_eq!(rt; answered(dispatcher.open(n)), Answered(Done));
-    assert_eq!(rt; answered(dispatcher.rise(n)), Answered(Accepted));
-    assert_eq!(rt; answered(dispatcher.rise(n)), Answered(Noted));
-    assert_eq!(rt; take_and_park(dispatcher), Start(n, depth));
-    assert_eq!(rt; answered(dispatcher.shut(n)), IN_SERVICE);
+fn start(rt: &impl Abort, dispatcher: &mut Dispatcher<I8259aController>, line: u16, depth: usize) {
+    assert_eq!(rt; dispatcher.open(line), Ok(Done));
+    assert_eq!(rt; dispatcher.rise(line), Ok(Accepted));
+    assert_eq!(rt; dispatcher.rise(line), Ok(Noted));
+    assert_eq!(rt; take_and_park(dispatcher), Took::Start { line, depth });
+    assert_eq!(rt; dispatcher.shut(line), Err(Refusal::InService));
     assert_eq!(rt;
         dispatcher.newest(),
         Some(Entry {
-            line: n,
+            line,
             mark: Mark::Parked,
         })
     );
     assert_eq!(rt; dispatcher.depth(), depth);
 }
 
-fn finish(rt: &impl Abort, dispatcher: &mut Dispatcher<I8259aController>, n: u16, depth: usize) {
-    assert_eq!(rt; answered(dispatcher.fall(n)), Answered(Noted));
-    assert_eq!(rt; finished(dispatcher.finish(n)), End(n, depth, Noted));
-    assert_eq!(rt; finished(dispatcher.finish(n)), NOT_NEWEST);
+fn finish(rt: &impl Abort, dispatcher: &mut Dispatcher<I8259aController>, line: u16, depth: usize) {
+    let end = Ended {
+        line,
+        depth,
+        answer: Noted,
+    };
+    assert_eq!(rt; dispatcher.fall(line), Ok(Noted));
+    assert_eq!(rt; dispatcher.finish(line), Ok(end));
+    assert_eq!(rt; dispatcher.finish(line), Err(Refusal::NotNewest));
 }
 
 #[test]
 fn eight_levels_nest(rt: HostRuntime) {
     let mut dispatcher = Dispatcher::new(I8259aController::new());
-    assert_eq!(rt; take_and_park(&mut dispatcher), Spurious(0));
-    for level in LEVELS.iter() {
-        let (n, depth) = *level;
-        start(&rt, &mut dispatcher, n, depth);
+    assert_eq!(rt; take_and_park(&mut dispatcher), Took::Spurious { depth: 0 });
+    for (line, depth) in LEVELS {
+        start(&rt, &mut dispatcher, line, depth);
     }
-    assert_eq!(rt; take_and_park(&mut dispatcher), Spurious(8));
-    for place in 0..8 {
-        let (n, depth) = LEVELS[7 - place];
-        finish(&rt, &mut dispatcher, n, depth);
+    assert_eq!(rt; take_and_park(&mut dispatcher), Took::Spurious { depth: 8 });
+    for (line, depth) in LEVELS.iter().copied().rev() {
+        finish(&rt, &mut dispatcher, line, depth);
     }
-    assert_eq!(rt; take_and_park(&mut dispatcher), Spurious(0));
+    assert_eq!(rt; take_and_park(&mut dispatcher), Took::Spurious { depth: 0 });
 }

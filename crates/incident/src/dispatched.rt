@@ -5,10 +5,68 @@ ghost use Rattle.dispatch.specs.Snapshots.{snapshot};
 
 use crate::report;
 use crate::unit::Devices;
-use controller::Controller;
-use dispatch::{Claim, Closed, Dispatcher, Parked, Taken};
+use controller::{Answer, Controller, Refusal};
+use dispatch::{Claim, Dispatcher, Ended, Refused, Taken};
 use std::io;
 use tally::Tally;
+
+// The line of a device, with the tally of what was answered of it.
+#[derive(Clone, Copy)]
+struct Device {
+    line: u16,
+    tally: Tally,
+}
+
+impl Device {
+    fn new(line: u16) -> Device {
+        Device {
+            line,
+            tally: Tally::new(),
+        }
+    }
+
+    fn answered(
+        &mut self,
+        rt: &HostRuntime,
+        call: &str,
+        answer: Result<Answer, Refusal>,
+    ) -> io::Result<()> {
+        self.tally.note_answer(answer);
+        report::call(rt, call, self.line, answer)
+    }
+
+    fn finish<C: Controller>(
+        &mut self,
+        rt: &HostRuntime,
+        unit: &mut Dispatcher<C>,
+    ) -> io::Result<()> {
+        let ended = unit.finish(self.line);
+        self.tally.note_end(ended);
+        report::call(rt, "finish", self.line, ended)
+    }
+
+    // A handler that ends at once: it closes what was started.
+    fn handle<C: Controller>(
+        &mut self,
+        rt: &HostRuntime,
+        unit: &mut Dispatcher<C>,
+    ) -> io::Result<()> {
+        match unit.take() {
+            Taken::Start { depth, claim } => {
+                let line = claim.line();
+                let ended = close_or_park(unit, claim);
+                self.tally.note_end(ended);
+                report::start(rt, line, depth)?;
+                report::call(rt, "close", line, ended)
+            }
+            Taken::Spurious { depth } => report::spurious(rt, depth),
+        }
+    }
+
+    fn balance(&self, rt: &HostRuntime) -> io::Result<()> {
+        report::balance(rt, self.line, &self.tally)
+    }
+}
 
 pub(crate) fn tell<C: Controller + Drop>(
     rt: &HostRuntime,
@@ -17,53 +75,20 @@ pub(crate) fn tell<C: Controller + Drop>(
 ) -> io::Result<()> {
     let Devices { stirrer, probe } = devices;
     let mut unit = Dispatcher::new(controller);
-    report::answer(rt, "open", stirrer, unit.open(stirrer))?;
-    report::answer(rt, "open", probe, unit.open(probe))?;
-    let mut stirred = Tally::new();
-    let mut probed = Tally::new();
-    rise(rt, &mut unit, stirrer, &mut stirred)?;
+    report::call(rt, "open", stirrer, unit.open(stirrer))?;
+    report::call(rt, "open", probe, unit.open(probe))?;
+    let mut stirred = Device::new(stirrer);
+    let mut probed = Device::new(probe);
+    stirred.answered(rt, "rise", unit.rise(stirrer))?;
     park_started(rt, &mut unit)?;
-    rise(rt, &mut unit, probe, &mut probed)?;
-    fall(rt, &mut unit, probe, &mut probed)?;
-    handle(rt, &mut unit, &mut probed)?;
-    fall(rt, &mut unit, stirrer, &mut stirred)?;
-    finish(rt, &mut unit, stirrer, &mut stirred)?;
-    handle(rt, &mut unit, &mut probed)?;
-    report::balance(rt, stirrer, &stirred)?;
-    report::balance(rt, probe, &probed)
-}
-
-fn rise<C: Controller>(
-    rt: &HostRuntime,
-    unit: &mut Dispatcher<C>,
-    n: u16,
-    tally: &mut Tally,
-) -> io::Result<()> {
-    let answer = unit.rise(n);
-    tally.note_answer(answer);
-    report::answer(rt, "rise", n, answer)
-}
-
-fn fall<C: Controller>(
-    rt: &HostRuntime,
-    unit: &mut Dispatcher<C>,
-    n: u16,
-    tally: &mut Tally,
-) -> io::Result<()> {
-    let answer = unit.fall(n);
-    tally.note_answer(answer);
-    report::answer(rt, "fall", n, answer)
-}
-
-fn finish<C: Controller>(
-    rt: &HostRuntime,
-    unit: &mut Dispatcher<C>,
-    n: u16,
-    tally: &mut Tally,
-) -> io::Result<()> {
-    let ended = unit.finish(n);
-    tally.note_end(ended);
-    report::ended(rt, "finish", n, ended)
+    probed.answered(rt, "rise", unit.rise(probe))?;
+    probed.answered(rt, "fall", unit.fall(probe))?;
+    probed.handle(rt, &mut unit)?;
+    stirred.answered(rt, "fall", unit.fall(stirrer))?;
+    stirred.finish(rt, &mut unit)?;
+    probed.handle(rt, &mut unit)?;
+    stirred.balance(rt)?;
+    probed.balance(rt)
 }
 
 // A handler that will go on later: it parks what was started.
@@ -73,35 +98,23 @@ fn park_started<C: Controller>(rt: &HostRuntime, unit: &mut Dispatcher<C>) -> io
             let line = claim.line();
             park(unit, claim);
             report::start(rt, line, depth)?;
-            report::parked(rt, line)
+            report::call(rt, "park", line, Ok(Answer::Done))
         }
         Taken::Spurious { depth } => report::spurious(rt, depth),
     }
 }
 
-// A handler that ends at once: it closes what was started.
-fn handle<C: Controller>(
-    rt: &HostRuntime,
-    unit: &mut Dispatcher<C>,
-    tally: &mut Tally,
-) -> io::Result<()> {
-    match unit.take() {
-        Taken::Start { depth, claim } => {
-            let line = claim.line();
-            match unit.close(claim) {
-                Closed::End(ended) => {
-                    tally.note_end(Ok(ended));
-                    report::start(rt, line, depth)?;
-                    report::ended(rt, "close", line, Ok(ended))
-                }
-                Closed::Refused { why, claim } => {
-                    park(unit, claim);
-                    report::start(rt, line, depth)?;
-                    report::ended(rt, "close", line, Err(why))
-                }
-            }
+// Closes, or parks what was not closed. What is required of the claim here and below no public function may require, so
+// the crates cases and dispatch_tests have theirs.
+fn close_or_park<C: Controller>(unit: &mut Dispatcher<C>, claim: Claim) -> Result<Ended, Refusal>
+    requires { held claim.line (snapshot C.Controller unit.old).nest ≡ true }
+{
+    match unit.close(claim) {
+        Ok(ended) => Ok(ended),
+        Err(Refused { why, claim }) => {
+            park(unit, claim);
+            Err(why)
         }
-        Taken::Spurious { depth } => report::spurious(rt, depth),
     }
 }
 
@@ -110,10 +123,12 @@ fn park<C: Controller>(unit: &mut Dispatcher<C>, claim: Claim)
     requires { held claim.line (snapshot C.Controller unit.old).nest ≡ true }
 {
     match unit.park(claim) {
-        Parked::Done => {}
-        Parked::Refused {
-            why: _,
-            claim: _back,
-        } => unreachable(),
+        Ok(()) => {}
+        Err(
+            Refused {
+                why: _,
+                claim: _back,
+            },
+        ) => unreachable(),
     }
 }

@@ -7,6 +7,7 @@ const STIRRER: u16 = 5;
 
 const PROBE: u16 = 3;
 
+// The offsets of the chip's registers, written out as a driver does.
 const ENABLE: u32 = 0x002000;
 
 const THRESHOLD: u32 = 0x200000;
@@ -15,7 +16,7 @@ const CLAIM_COMPLETE: u32 = 0x200004;
 
 pub(crate) fn tell(rt: &HostRuntime) -> io::Result<()> {
     let mut chip = Plic::<64>::new();
-    report::number(rt, "read of offset 0x000002", chip.read(0x000002))?;
+    report::answer(rt, "read of offset 0x000002", chip.read(0x000002))?;
     report::done(
         rt,
         "the stirrer's source 5 gets priority 2",
@@ -35,14 +36,14 @@ pub(crate) fn tell(rt: &HostRuntime) -> io::Result<()> {
     lose_the_probe(rt, &mut chip)?;
     report::done(rt, "complete source 3", chip.write(CLAIM_COMPLETE, 3))?;
     report::done(rt, "complete source 5", chip.write(CLAIM_COMPLETE, 5))?;
-    report::number(rt, "claim, source", chip.read(CLAIM_COMPLETE))
+    report::answer(rt, "claim, source", chip.read(CLAIM_COMPLETE))
 }
 
 // The stirrer's handler is in service, under its own priority as threshold, when the probe's line rises.
 fn serve_the_stirrer(rt: &HostRuntime, chip: &mut Plic<64>) -> io::Result<()> {
     report::done(rt, "the stirrer's line 5 rises", chip.rise(STIRRER))?;
     report::yes_or_no(rt, "the PLIC signals", chip.signal())?;
-    report::number(rt, "claim, source", chip.read(CLAIM_COMPLETE))?;
+    report::answer(rt, "claim, source", chip.read(CLAIM_COMPLETE))?;
     report::done(rt, "threshold 2", chip.write(THRESHOLD, 2))?;
     report::done(rt, "the stirrer's line 5 falls", chip.fall(STIRRER))
 }
@@ -52,5 +53,5 @@ fn lose_the_probe(rt: &HostRuntime, chip: &mut Plic<64>) -> io::Result<()> {
     report::done(rt, "the probe's line 3 rises", chip.rise(PROBE))?;
     report::yes_or_no(rt, "the PLIC signals", chip.signal())?;
     report::done(rt, "the probe's line 3 falls", chip.fall(PROBE))?;
-    report::number(rt, "claim, source", chip.read(CLAIM_COMPLETE))
+    report::answer(rt, "claim, source", chip.read(CLAIM_COMPLETE))
 }

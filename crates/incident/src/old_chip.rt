@@ -1,6 +1,5 @@
 // On an 8259A the acknowledge names level 7, though nothing new is in service.
 use crate::report;
-use controller::Refusal;
 use i8259a::{I8259a, set_up};
 use std::io;
 
@@ -10,11 +9,7 @@ const PROBE: u16 = 3;
 
 pub(crate) fn tell(rt: &HostRuntime) -> io::Result<()> {
     let mut chip = I8259a::new();
-    report::number(
-        rt,
-        "acknowledge before the set-up",
-        level(chip.acknowledge()),
-    )?;
+    report::answer(rt, "acknowledge before the set-up", chip.acknowledge())?;
     report::done(
         rt,
         "set up, ICW2 0x08, ICW3 0x00",
@@ -35,7 +30,7 @@ pub(crate) fn tell(rt: &HostRuntime) -> io::Result<()> {
 fn serve_the_stirrer(rt: &HostRuntime, chip: &mut I8259a) -> io::Result<()> {
     report::done(rt, "the stirrer's line 5 rises", chip.rise(STIRRER))?;
     report::yes_or_no(rt, "the chip signals", chip.signal())?;
-    report::number(rt, "acknowledge, level", level(chip.acknowledge()))?;
+    report::answer(rt, "acknowledge, level", chip.acknowledge())?;
     report::done(rt, "the stirrer's line 5 falls", chip.fall(STIRRER))?;
     in_service(rt, chip)
 }
@@ -45,17 +40,10 @@ fn lose_the_probe(rt: &HostRuntime, chip: &mut I8259a) -> io::Result<()> {
     report::done(rt, "the probe's line 3 rises", chip.rise(PROBE))?;
     report::yes_or_no(rt, "the chip signals", chip.signal())?;
     report::done(rt, "the probe's line 3 falls", chip.fall(PROBE))?;
-    report::number(rt, "acknowledge, level", level(chip.acknowledge()))?;
+    report::answer(rt, "acknowledge, level", chip.acknowledge())?;
     in_service(rt, chip)
 }
 
 fn in_service(rt: &HostRuntime, chip: &I8259a) -> io::Result<()> {
-    report::number(rt, "the in-service register reads as", level(chip.read(0)))
-}
-
-fn level(answer: Result<u8, Refusal>) -> Result<u32, Refusal> {
-    match answer {
-        Ok(value) => Ok(u32::from(value)),
-        Err(refusal) => Err(refusal),
-    }
+    report::answer(rt, "the in-service register reads as", chip.read(0))
 }

@@ -1,44 +1,39 @@
 // One printed line for each thing done, with what was answered.
-use controller::{Answer, Refusal};
-use dispatch::Ended;
-use std::io;
+use controller::Refusal;
+use std::{fmt, io};
 use tally::Tally;
 
-pub(crate) fn done(rt: &HostRuntime, what: &str, answer: Result<(), Refusal>) -> io::Result<()> {
-    match answer {
-        Ok(()) => println!(rt; "  {what}: done"),
-        Err(refusal) => refused(rt, what, refusal),
-    }
-}
-
-pub(crate) fn yes_or_no(rt: &HostRuntime, what: &str, answer: bool) -> io::Result<()> {
-    if answer {
-        println!(rt; "  {what}: yes")
-    } else {
-        println!(rt; "  {what}: no")
-    }
-}
-
-pub(crate) fn number(rt: &HostRuntime, what: &str, answer: Result<u32, Refusal>) -> io::Result<()> {
+pub(crate) fn answer<W: fmt::Display + Drop, T: fmt::Display + Drop>(
+    rt: &HostRuntime,
+    what: W,
+    answer: Result<T, Refusal>,
+) -> io::Result<()> {
     match answer {
         Ok(value) => println!(rt; "  {what}: {value}"),
-        Err(refusal) => refused(rt, what, refusal),
+        Err(refusal) => {
+            let number = refusal.number();
+            println!(rt; "  {what}: refused ({number}), {refusal}")
+        }
     }
 }
 
-pub(crate) fn answer(
+pub(crate) fn done(rt: &HostRuntime, what: &str, res: Result<(), Refusal>) -> io::Result<()> {
+    answer(rt, what, res.map(|()| "done"))
+}
+
+// A call of a line.
+pub(crate) fn call<T: fmt::Display + Drop>(
     rt: &HostRuntime,
     call: &str,
     n: u16,
-    answer: Result<Answer, Refusal>,
+    res: Result<T, Refusal>,
 ) -> io::Result<()> {
-    match answer {
-        Ok(word) => println!(rt; "  {call} {n}: {word}"),
-        Err(refusal) => {
-            let number = refusal.number();
-            println!(rt; "  {call} {n}: refused ({number}), {refusal}")
-        }
-    }
+    answer(rt, format_args!("{call} {n}"), res)
+}
+
+pub(crate) fn yes_or_no(rt: &HostRuntime, what: &str, answer: bool) -> io::Result<()> {
+    let word = if answer { "yes" } else { "no" };
+    println!(rt; "  {what}: {word}")
 }
 
 pub(crate) fn line(rt: &HostRuntime, what: &str, answer: Option<u16>) -> io::Result<()> {
@@ -48,43 +43,12 @@ pub(crate) fn line(rt: &HostRuntime, what: &str, answer: Option<u16>) -> io::Res
     }
 }
 
-fn refused(rt: &HostRuntime, what: &str, refusal: Refusal) -> io::Result<()> {
-    let number = refusal.number();
-    println!(rt; "  {what}: refused ({number}), {refusal}")
-}
-
 pub(crate) fn start(rt: &HostRuntime, line: u16, depth: usize) -> io::Result<()> {
     println!(rt; "  take: START {line}, depth {depth}")
 }
 
 pub(crate) fn spurious(rt: &HostRuntime, depth: usize) -> io::Result<()> {
     println!(rt; "  take: SPURIOUS, depth {depth}")
-}
-
-pub(crate) fn parked(rt: &HostRuntime, line: u16) -> io::Result<()> {
-    println!(rt; "  park {line}: DONE")
-}
-
-pub(crate) fn ended(
-    rt: &HostRuntime,
-    call: &str,
-    n: u16,
-    ended: Result<Ended, Refusal>,
-) -> io::Result<()> {
-    match ended {
-        Ok(end) => {
-            let Ended {
-                line,
-                depth,
-                answer,
-            } = end;
-            println!(rt; "  {call} {n}: END {line}, depth {depth}, {answer}")
-        }
-        Err(refusal) => {
-            let number = refusal.number();
-            println!(rt; "  {call} {n}: refused ({number}), {refusal}")
-        }
-    }
 }
 
 pub(crate) fn balance(rt: &HostRuntime, line: u16, tally: &Tally) -> io::Result<()> {

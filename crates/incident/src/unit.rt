@@ -16,27 +16,27 @@ pub(crate) fn tell<C: Controller>(
     devices: Devices,
 ) -> io::Result<()> {
     let Devices { stirrer, probe } = devices;
-    report::answer(rt, "open", stirrer, unit.open(stirrer))?;
-    report::answer(rt, "open", probe, unit.open(probe))?;
+    report::call(rt, "open", stirrer, unit.open(stirrer))?;
+    report::call(rt, "open", probe, unit.open(probe))?;
     serve(rt, unit, stirrer)?;
     lose(rt, unit, probe)
 }
 
 // A line rises, is taken, and is finished.
 fn serve<C: Controller>(rt: &HostRuntime, unit: &mut C, n: u16) -> io::Result<()> {
-    report::answer(rt, "rise", n, unit.rise(n))?;
+    report::call(rt, "rise", n, unit.rise(n))?;
     report::line(rt, "take", unit.take())?;
-    report::answer(rt, "shut", n, unit.shut(n))?;
-    report::answer(rt, "fall", n, unit.fall(n))?;
-    report::answer(rt, "finish", n, unit.finish(n))
+    report::call(rt, "shut", n, unit.shut(n))?;
+    report::call(rt, "fall", n, unit.fall(n))?;
+    report::call(rt, "finish", n, unit.finish(n))
 }
 
 // A line falls inside the one moment between the signal and the take.
 fn lose<C: Controller>(rt: &HostRuntime, unit: &mut C, n: u16) -> io::Result<()> {
-    report::answer(rt, "rise", n, unit.rise(n))?;
+    report::call(rt, "rise", n, unit.rise(n))?;
     report::yes_or_no(rt, "signal", unit.signal())?;
-    report::answer(rt, "fall", n, unit.fall(n))?;
+    report::call(rt, "fall", n, unit.fall(n))?;
     report::line(rt, "take", unit.take())?;
     report::line(rt, "newest in service", unit.newest())?;
-    report::answer(rt, "finish", n, unit.finish(n))
+    report::call(rt, "finish", n, unit.finish(n))
 }

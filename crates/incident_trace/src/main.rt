@@ -26,7 +26,7 @@ fn through_traces(rt: &HostRuntime, trace: &[u8]) -> io::Result<()> {
     println!(rt; "The trace replayed on the new unit")?;
     let new_unit = PlicController::new(priorities());
     traced::tell(rt, new_unit, trace, &mut [UNWRITTEN; 64])?;
-    let cut = &trace[0..trace.len().saturating_sub(1)];
+    let cut = &trace[..trace.len().saturating_sub(1)];
     println!(rt; "The trace without its last byte, on the old unit")?;
     traced::tell(rt, old_unit(), cut, &mut [UNWRITTEN; 64])?;
     println!(rt; "The trace on the old unit, with a log of two records")?;

@@ -4,7 +4,7 @@ use dispatch::Dispatcher;
 use replay::{LogRecord, Replayed, replay};
 use std::io;
 use std::io::Read;
-use trace::{ACT_BITS, Act, Next, Reader, Record};
+use trace::{Next, Reader, Record};
 
 // More of the input than this is left unread.
 const MOST_BYTES: u64 = 65_536;
@@ -19,6 +19,7 @@ pub(crate) fn read(rt: &HostRuntime) -> io::Result<Vec<u8>> {
 // The trace record by record, up to its end or its first fault.
 pub(crate) fn show(rt: &HostRuntime, trace: &[u8]) -> io::Result<()> {
     let mut reader = Reader::new(trace);
+    // Each record has a byte at least, so there are no more of them than bytes.
     for _ in 0..trace.len() {
         let place = reader.place();
         match reader.next_record() {
@@ -34,24 +35,10 @@ pub(crate) fn show(rt: &HostRuntime, trace: &[u8]) -> io::Result<()> {
 fn show_record(rt: &HostRuntime, record: &Record) -> io::Result<()> {
     let place = record.place;
     print!(rt; "  byte {place}:")?;
-    let acts = record.acts();
-    for bit in 0..ACT_BITS {
-        if let Some(act) = acts.at(bit) {
-            show_act(rt, act)?;
-        }
+    for act in record.acts().in_order().into_iter().flatten() {
+        print!(rt; " {act}")?;
     }
     println!(rt; "")
-}
-
-fn show_act(rt: &HostRuntime, act: Act) -> io::Result<()> {
-    match act {
-        Act::Rise(n) => print!(rt; " rise {n}"),
-        Act::Fall(n) => print!(rt; " fall {n}"),
-        Act::Open(n) => print!(rt; " open {n}"),
-        Act::Shut(n) => print!(rt; " shut {n}"),
-        Act::Take => print!(rt; " take"),
-        Act::Finish => print!(rt; " finish"),
-    }
 }
 
 fn fault(rt: &HostRuntime, place: usize, why: Refusal, rest: &[u8]) -> io::Result<()> {

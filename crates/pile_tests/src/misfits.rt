@@ -2,9 +2,10 @@
 use crate::script::Call::{
     Fall, Finish, Fleeting, Newest, Open, Rise, Shut, Signal, Span, Take, There, Width,
 };
-use crate::script::Reply::{Is, No, NoLine, Refused};
+use crate::script::Reply::{Answered, Is, Line, Said};
 use crate::script::{Step, run};
 use cascade::{Cascade, check as fits};
+use controller::Refusal::NotALine;
 use controller::{Controller, Refusal};
 use i8259a_controller::I8259aController;
 use std::process::Abort;
@@ -13,18 +14,18 @@ use units::old_unit;
 const VOID: [Step; 14] = [
     Step(Width, Is(0)),
     Step(Span, Is(1)),
-    Step(There(0), No),
-    Step(There(8), No),
-    Step(Fleeting(0), No),
-    Step(Newest, NoLine),
-    Step(Rise(0), Refused(1)),
-    Step(Fall(8), Refused(1)),
-    Step(Open(0), Refused(1)),
-    Step(Shut(8), Refused(1)),
-    Step(Finish(0), Refused(1)),
-    Step(Signal, No),
-    Step(Take, NoLine),
-    Step(Newest, NoLine),
+    Step(There(0), Said(false)),
+    Step(There(8), Said(false)),
+    Step(Fleeting(0), Said(false)),
+    Step(Newest, Line(None)),
+    Step(Rise(0), Answered(Err(NotALine))),
+    Step(Fall(8), Answered(Err(NotALine))),
+    Step(Open(0), Answered(Err(NotALine))),
+    Step(Shut(8), Answered(Err(NotALine))),
+    Step(Finish(0), Answered(Err(NotALine))),
+    Step(Signal, Said(false)),
+    Step(Take, Line(None)),
+    Step(Newest, Line(None)),
 ];
 
 #[test]

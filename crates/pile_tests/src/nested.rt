@@ -1,8 +1,9 @@
 // Piles of three chips, with a pile as the outer part and with one as the inner.
 use crate::script::Call::{Open, Rise, Span, There, Width};
-use crate::script::Reply::{Is, No, Refused, Yes};
+use crate::script::Reply::{Answered, Is, Said};
 use crate::script::{Step, run, run_by_rank};
 use cascade::Cascade;
+use controller::Refusal::NotALine;
 use i8259a_controller::I8259aController;
 use units::old_unit;
 
@@ -10,13 +11,13 @@ use units::old_unit;
 const BELOW: [Step; 9] = [
     Step(Width, Is(24)),
     Step(Span, Is(512)),
-    Step(There(2), No),
-    Step(There(9), No),
-    Step(There(16), Yes),
-    Step(There(23), Yes),
-    Step(There(24), No),
-    Step(Open(9), Refused(1)),
-    Step(Rise(2), Refused(1)),
+    Step(There(2), Said(false)),
+    Step(There(9), Said(false)),
+    Step(There(16), Said(true)),
+    Step(There(23), Said(true)),
+    Step(There(24), Said(false)),
+    Step(Open(9), Answered(Err(NotALine))),
+    Step(Rise(2), Answered(Err(NotALine))),
 ];
 
 const BELOW_BY_RANK: [u16; 22] = [
@@ -27,13 +28,13 @@ const BELOW_BY_RANK: [u16; 22] = [
 const ABOVE: [Step; 9] = [
     Step(Width, Is(24)),
     Step(Span, Is(512)),
-    Step(There(2), No),
-    Step(There(10), No),
-    Step(There(8), Yes),
-    Step(There(23), Yes),
-    Step(There(24), No),
-    Step(Open(10), Refused(1)),
-    Step(Rise(2), Refused(1)),
+    Step(There(2), Said(false)),
+    Step(There(10), Said(false)),
+    Step(There(8), Said(true)),
+    Step(There(23), Said(true)),
+    Step(There(24), Said(false)),
+    Step(Open(10), Answered(Err(NotALine))),
+    Step(Rise(2), Answered(Err(NotALine))),
 ];
 
 const ABOVE_BY_RANK: [u16; 22] = [

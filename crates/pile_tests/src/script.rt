@@ -1,7 +1,10 @@
 // Scripts of calls on any controller, with the answers that its rules give.
+// controller_tests has the like: what makes the call would have to be a public function of a library, with a contract of its
+// own, and the two types without it are no more than its words.
 use controller::{Answer, Controller, Refusal};
 use std::process::Abort;
 
+// Data and no closure, since a row of a script is a constant.
 #[derive(Clone, Copy)]
 pub(crate) enum Call {
     Width,
@@ -18,80 +21,52 @@ pub(crate) enum Call {
     Finish(u16),
 }
 
-// What a call answered, in one form for all calls: a refusal stands by its number.
+// What a call brought back, by the type of its result.
 #[derive(Clone, Copy, PartialEq, Eq, Debug)]
 pub(crate) enum Reply {
     Is(u32),
-    Yes,
-    No,
-    Line(u16),
-    NoLine,
-    Accepted,
-    Withdrawn,
-    Noted,
-    Done,
-    Refused(u8),
+    Said(bool),
+    Line(Option<u16>),
+    Answered(Result<Answer, Refusal>),
 }
 
 // A call and its answer.
 pub(crate) struct Step(pub Call, pub Reply);
 
-fn told(yes: bool) -> Reply {
-    if yes { Reply::Yes } else { Reply::No }
-}
-
-fn line(line: Option<u16>) -> Reply {
-    match line {
-        Some(n) => Reply::Line(n),
-        None => Reply::NoLine,
-    }
-}
-
-fn answer(res: Result<Answer, Refusal>) -> Reply {
-    match res {
-        Ok(Answer::Accepted) => Reply::Accepted,
-        Ok(Answer::Withdrawn) => Reply::Withdrawn,
-        Ok(Answer::Noted) => Reply::Noted,
-        Ok(Answer::Done) => Reply::Done,
-        Err(why) => Reply::Refused(why.number()),
-    }
-}
-
 fn ask<C: Controller>(unit: &mut C, call: Call) -> Reply {
     match call {
         Call::Width => Reply::Is(u32::from(unit.width())),
         Call::Span => Reply::Is(unit.span()),
-        Call::There(n) => told(unit.there(n)),
-        Call::Fleeting(n) => told(unit.fleeting(n)),
-        Call::Newest => line(unit.newest()),
-        Call::Signal => told(unit.signal()),
-        Call::Rise(n) => answer(unit.rise(n)),
-        Call::Fall(n) => answer(unit.fall(n)),
-        Call::Open(n) => answer(unit.open(n)),
-        Call::Shut(n) => answer(unit.shut(n)),
-        Call::Take => line(unit.take()),
-        Call::Finish(n) => answer(unit.finish(n)),
+        Call::There(n) => Reply::Said(unit.there(n)),
+        Call::Fleeting(n) => Reply::Said(unit.fleeting(n)),
+        Call::Newest => Reply::Line(unit.newest()),
+        Call::Signal => Reply::Said(unit.signal()),
+        Call::Rise(n) => Reply::Answered(unit.rise(n)),
+        Call::Fall(n) => Reply::Answered(unit.fall(n)),
+        Call::Open(n) => Reply::Answered(unit.open(n)),
+        Call::Shut(n) => Reply::Answered(unit.shut(n)),
+        Call::Take => Reply::Line(unit.take()),
+        Call::Finish(n) => Reply::Answered(unit.finish(n)),
     }
 }
 
 pub(crate) fn run<C: Controller>(rt: &impl Abort, unit: &mut C, steps: &[Step]) {
-    for (place, step) in steps.iter().enumerate() {
-        let Step(call, expected) = step;
-        assert_eq!(rt; ask(unit, *call), *expected, "step {place}");
+    for (place, &Step(call, expected)) in steps.iter().enumerate() {
+        assert_eq!(rt; ask(unit, call), expected, "step {place}");
     }
 }
 
 // All lines are open and high at once; they are taken in the order of their ranks, each once the one before is finished.
 pub(crate) fn run_by_rank<C: Controller>(rt: &impl Abort, unit: &mut C, lines: &[u16]) {
-    for n in lines.iter() {
-        assert_eq!(rt; answer(unit.open(*n)), Reply::Done, "{}", *n);
-        assert_eq!(rt; answer(unit.rise(*n)), Reply::Accepted, "{}", *n);
+    for &n in lines {
+        assert_eq!(rt; unit.open(n), Ok(Answer::Done), "{n}");
+        assert_eq!(rt; unit.rise(n), Ok(Answer::Accepted), "{n}");
     }
-    for n in lines.iter() {
-        assert_eq!(rt; line(unit.take()), Reply::Line(*n), "{}", *n);
-        assert_eq!(rt; line(unit.newest()), Reply::Line(*n), "{}", *n);
-        assert_eq!(rt; answer(unit.fall(*n)), Reply::Noted, "{}", *n);
-        assert_eq!(rt; answer(unit.finish(*n)), Reply::Noted, "{}", *n);
+    for &n in lines {
+        assert_eq!(rt; unit.take(), Some(n), "{n}");
+        assert_eq!(rt; unit.newest(), Some(n), "{n}");
+        assert_eq!(rt; unit.fall(n), Ok(Answer::Noted), "{n}");
+        assert_eq!(rt; unit.finish(n), Ok(Answer::Noted), "{n}");
     }
     assert!(rt; !unit.signal());
 }

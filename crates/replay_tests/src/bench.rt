@@ -3,7 +3,6 @@ use controller::Refusal;
 use dispatch::Dispatcher;
 use replay::{LogRecord, Replayed, replay};
 use std::process::Abort;
-use std::test::Fail;
 use units::old_unit;
 
 // open 7; rise 7, open 9; take; rise 9; fall 9; take; rise 2, which is no line; rise 9, take; finish; fall 9, finish.
@@ -27,99 +26,53 @@ pub(crate) const LOG: [LogRecord; 6] = [
 // What no replay of the trace writes.
 pub(crate) const FILL: LogRecord = LogRecord::Spurious { depth: 99 };
 
-// What a replay answers: log records, bytes, and the number of the fault.
-#[derive(Clone, Copy)]
-pub(crate) struct Row {
-    pub(crate) records: usize,
-    pub(crate) bytes: usize,
-    pub(crate) fault: u8,
+// What a replay answers that stops with this fault.
+pub(crate) const fn stop(records: usize, bytes: usize, fault: Option<Refusal>) -> Replayed {
+    Replayed {
+        records,
+        bytes,
+        fault,
+    }
 }
 
 // Of the trace's records, each by its place: what a replay that stops before it has logged and done. Last, of its end.
-pub(crate) const PLACES: [Row; 11] = [
-    Row {
-        records: 0,
-        bytes: 0,
-        fault: 0,
-    },
-    Row {
-        records: 0,
-        bytes: 2,
-        fault: 0,
-    },
-    Row {
-        records: 0,
-        bytes: 5,
-        fault: 0,
-    },
-    Row {
-        records: 1,
-        bytes: 6,
-        fault: 0,
-    },
-    Row {
-        records: 1,
-        bytes: 8,
-        fault: 0,
-    },
-    Row {
-        records: 1,
-        bytes: 10,
-        fault: 0,
-    },
-    Row {
-        records: 2,
-        bytes: 11,
-        fault: 0,
-    },
-    Row {
-        records: 3,
-        bytes: 13,
-        fault: 0,
-    },
-    Row {
-        records: 4,
-        bytes: 15,
-        fault: 0,
-    },
-    Row {
-        records: 5,
-        bytes: 16,
-        fault: 0,
-    },
-    Row {
-        records: 6,
-        bytes: 18,
-        fault: 0,
-    },
-];
+pub(crate) fn places() -> [Replayed; 11] {
+    [
+        stop(0, 0, None),
+        stop(0, 2, None),
+        stop(0, 5, None),
+        stop(1, 6, None),
+        stop(1, 8, None),
+        stop(1, 10, None),
+        stop(2, 11, None),
+        stop(3, 13, None),
+        stop(4, 15, None),
+        stop(5, 16, None),
+        stop(6, 18, None),
+    ]
+}
 
 pub(crate) fn on_old_unit(trace: &[u8], log: &mut [LogRecord]) -> Replayed {
     replay(&mut Dispatcher::new(old_unit()), trace, log)
 }
 
-// The case `what` at `n`: the answer is the row's, the log begins with that many records of the trace's, and nothing past them was touched.
-pub(crate) fn check_row(
+// The case `what` at `n`: the answer is the expected one, the log begins with that many records of the trace's, and nothing
+// past them was touched.
+pub(crate) fn check_stop(
     rt: &impl Abort,
     replayed: Replayed,
     log: &[LogRecord],
-    row: Row,
+    expected: Replayed,
     what: &str,
     n: usize,
 ) {
-    assert_eq!(rt; replayed.records, row.records, "{what} {n}");
-    assert_eq!(rt; replayed.bytes, row.bytes, "{what} {n}");
-    let fault = match replayed.fault {
-        Some(refusal) => refusal.number(),
-        None => 0,
-    };
-    assert_eq!(rt; fault, row.fault, "{what} {n}");
-    for (i, record) in log.iter().enumerate() {
-        let expected = if i < row.records && i < LOG.len() {
-            LOG[i]
-        } else {
-            FILL
-        };
-        assert_eq!(rt; *record, expected, "{what} {n}: log record {i}");
-    }
+    assert_eq!(rt; replayed, expected, "{what} {n}");
+    let written = LOG.iter().take(expected.records);
+    assert!(rt; expected.records <= log.len(), "{what} {n}");
+    let (logged, rest) = log.split_at(expected.records);
+    assert!(rt; logged.iter().eq(written), "{what} {n}: {logged:?}");
+    assert!(rt;
+        rest.iter().all(|record| *record == FILL),
+        "{what} {n}: {rest:?}"
+    );
 }

@@ -13,8 +13,8 @@ fn check_alike(rt: &impl Abort, trace: &[u8], room: usize) {
         &mut Dispatcher::new(old_unit()),
         &mut Dispatcher::new(old_unit()),
         trace,
-        &mut one_log[0..room],
-        &mut other_log[0..room],
+        &mut one_log[..room],
+        &mut other_log[..room],
     );
     assert_eq!(rt; one, other);
     assert_eq!(rt; one_log, other_log);
@@ -22,10 +22,10 @@ fn check_alike(rt: &impl Abort, trace: &[u8], room: usize) {
 
 #[test]
 fn units_that_tell_the_same(rt: HostRuntime) {
-    for length in 0..TRACE.len() + 1 {
-        check_alike(&rt, &TRACE[0..length], 8);
+    for length in 0..=TRACE.len() {
+        check_alike(&rt, &TRACE[..length], 8);
     }
-    for room in 0..9 {
+    for room in 0..=8 {
         check_alike(&rt, &TRACE, room);
     }
 }

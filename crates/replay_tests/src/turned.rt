@@ -1,5 +1,5 @@
 // Acts that are refused, and a record with all six acts, done in bit order.
-use crate::bench::{FILL, on_old_unit};
+use crate::bench::{FILL, on_old_unit, stop};
 use controller::Refusal;
 use replay::LogRecord;
 
@@ -13,15 +13,20 @@ fn refused_acts(rt: HostRuntime) {
     let trace = [0x0f, 2, 2, 2, 2, 0x20, 0x05, 3, 3, 0x10, 0x08, 3];
     let mut log = [FILL; 9];
     let replayed = on_old_unit(&trace, &mut log);
-    assert_eq!(rt; replayed.records, 7);
-    assert_eq!(rt; replayed.bytes, trace.len());
-    for record in &log[0..4] {
-        assert_eq!(rt; *record, turned(Some(2), 0, Refusal::NotALine));
-    }
-    assert_eq!(rt; log[4], turned(None, 0, Refusal::NotNewest));
-    assert_eq!(rt; log[5], LogRecord::Start { line: 3, depth: 1 });
-    assert_eq!(rt; log[6], turned(Some(3), 1, Refusal::InService));
-    assert_eq!(rt; log[7], FILL);
+    assert_eq!(rt; replayed, stop(7, trace.len(), None));
+    let no_line = turned(Some(2), 0, Refusal::NotALine);
+    let expected = [
+        no_line,
+        no_line,
+        no_line,
+        no_line,
+        turned(None, 0, Refusal::NotNewest),
+        LogRecord::Start { line: 3, depth: 1 },
+        turned(Some(3), 1, Refusal::InService),
+        FILL,
+        FILL,
+    ];
+    assert_eq!(rt; log, expected);
 }
 
 // rise 4, fall 1, open 4, shut 6, take, finish: the take comes after the open, and the finish after the take.
@@ -30,9 +35,8 @@ fn six_acts_in_bit_order(rt: HostRuntime) {
     let trace = [0x3f, 4, 1, 4, 6];
     let mut log = [FILL; 6];
     let replayed = on_old_unit(&trace, &mut log);
-    assert_eq!(rt; replayed.records, 2);
-    assert_eq!(rt; replayed.bytes, 5);
-    assert_eq!(rt; log[0], LogRecord::Start { line: 4, depth: 1 });
-    assert_eq!(rt; log[1], LogRecord::End { line: 4, depth: 1 });
-    assert_eq!(rt; log[2], FILL);
+    assert_eq!(rt; replayed, stop(2, 5, None));
+    let start = LogRecord::Start { line: 4, depth: 1 };
+    let end = LogRecord::End { line: 4, depth: 1 };
+    assert_eq!(rt; log, [start, end, FILL, FILL, FILL, FILL]);
 }

@@ -1,4 +1,6 @@
 // One trace with records of every length, cut at every length and spoilt at every place.
+ghost use Rattle.std.specs.Prelude.{◌<◌};
+
 use controller::Refusal;
 use std::process::Abort;
 use std::test::Fail;
@@ -13,18 +15,13 @@ const UNLAWFUL: [u8; 5] = [0x00, 0x40, 0x80, 0xc1, 0xff];
 
 // The survey of the records that end within a length.
 fn survey_of(length: usize, fault: Option<Refusal>) -> Survey {
-    let mut survey = Survey {
-        records: 0,
-        bytes: 0,
+    let records = ENDS.iter().filter(|end| **end <= length).count();
+    let bytes = ENDS.iter().take(records).last().copied().unwrap_or(0);
+    Survey {
+        records,
+        bytes,
         fault,
-    };
-    for end in ENDS.iter() {
-        if *end <= length {
-            survey.records = survey.records.saturating_add(1);
-            survey.bytes = *end;
-        }
     }
-    survey
 }
 
 // The reader gives the surveyed records, each with its own bytes.
@@ -35,19 +32,17 @@ fn check_records(
     survey: Survey,
 ) -> Result<(), Fail> {
     let mut place = 0;
-    for (n, end) in ENDS.iter().enumerate() {
-        if n < survey.records {
-            let Next::Record(record) = reader.next_record() else {
-                return Err(Fail::new("no record"));
-            };
-            assert_eq!(rt; record.place, place, "{trace:?}");
-            assert_eq!(rt;
-                record.place.saturating_add(record.bytes.len()),
-                *end,
-                "{trace:?}"
-            );
-            place = *end;
-        }
+    for end in ENDS.iter().take(survey.records) {
+        let Next::Record(record) = reader.next_record() else {
+            return Err(Fail::new("no record"));
+        };
+        assert_eq!(rt; record.place, place, "{trace:?}");
+        assert_eq!(rt;
+            record.place.saturating_add(record.bytes.len()),
+            *end,
+            "{trace:?}"
+        );
+        place = *end;
     }
     assert_eq!(rt; reader.place(), place, "{trace:?}");
     Ok(())
@@ -98,11 +93,11 @@ fn a_trace_is_cut_at_every_length(rt: HostRuntime) -> Result<(), Fail> {
 }
 
 // An unlawful byte is a fault where a record begins; elsewhere it is a line like any other.
-fn check_spoilt(rt: &impl Abort, place: usize, byte: u8) -> Result<(), Fail> {
+fn check_spoilt(rt: &impl Abort, place: usize, byte: u8) -> Result<(), Fail>
+    requires { place < 16 }
+{
     let mut trace = TRACE;
-    if place < 16 {
-        trace[place] = byte;
-    }
+    trace[place] = byte;
     let before = survey_of(place, Some(Refusal::UnlawfulMap));
     let survey = if before.bytes == place {
         before

@@ -17,13 +17,7 @@ pub(crate) fn lawful(map: u8) -> bool {
 
 // How many of these bits are set.
 pub(crate) fn set_bits(map: u8, bits: &[u8]) -> usize {
-    let mut count = 0usize;
-    for bit in bits.iter() {
-        if map & *bit != 0 {
-            count = count.saturating_add(1);
-        }
-    }
-    count
+    bits.iter().filter(|bit| map & **bit != 0).count()
 }
 
 // How many lines follow the map.
@@ -48,10 +42,10 @@ pub(crate) fn byte_at(map: u8, place: usize) -> u8 {
 
 // The line of a bit: the lines of the bits below it stand before it.
 fn line_of(map: u8, bit: u8, below: &[u8]) -> Option<u8> {
-    match LINES.get(set_bits(map, below)) {
-        Some(line) if map & bit != 0 => Some(*line),
-        _ => None,
+    if map & bit == 0 {
+        return None;
     }
+    LINES.get(set_bits(map, below)).copied()
 }
 
 pub(crate) fn acts_of(map: u8) -> Acts {

@@ -14,9 +14,9 @@ fn check_bytes(rt: &impl Abort, buffer: &[u8], map: u8) {
 
 // An act is named for each set bit and for no other.
 fn check_named(rt: &impl Abort, record: &Record, map: u8) {
-    for (i, bit) in BITS.iter().enumerate() {
+    for (i, bit) in (0..6u8).zip(BITS.iter()) {
         assert_eq!(rt;
-            record.acts().at(i as u8).is_some(),
+            record.acts().at(i).is_some(),
             map & *bit != 0,
             "map {map}: bit {i}"
         );

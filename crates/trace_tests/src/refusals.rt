@@ -1,16 +1,17 @@
 // What the writer answers for every map with few and many lines and little and much space.
 use crate::format::{FILL, LINES, byte_at, fields, lawful, length};
+use controller::Refusal;
 use std::process::Abort;
 use trace::write_record;
 
 // The first question that is answered no gives the refusal: the map, its lines, the space.
-fn expected(map: u8, lines: usize, space: usize) -> Result<usize, u8> {
+fn expected(map: u8, lines: usize, space: usize) -> Result<usize, Refusal> {
     if !lawful(map) {
-        Err(6)
+        Err(Refusal::UnlawfulMap)
     } else if lines < fields(map) {
-        Err(7)
+        Err(Refusal::CutRecord)
     } else if space < length(map) {
-        Err(8)
+        Err(Refusal::NoSpace)
     } else {
         Ok(length(map))
     }
@@ -18,10 +19,7 @@ fn expected(map: u8, lines: usize, space: usize) -> Result<usize, u8> {
 
 // The answer, and that only the bytes of a record that was written were touched.
 fn check_write(rt: &impl Abort, map: u8, lines: &[u8], buffer: &mut [u8]) {
-    let answer = match write_record(map, lines, buffer) {
-        Ok(length) => Ok(length),
-        Err(why) => Err(why.number()),
-    };
+    let answer = write_record(map, lines, buffer);
     let (count, space) = (lines.len(), buffer.len());
     assert_eq!(rt;
         answer,

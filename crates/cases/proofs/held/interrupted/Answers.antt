@@ -4,10 +4,10 @@ use Rattle.dispatch.specs.Tables.{entries_of}
 use Rattle.cases.proofs.held.interrupted.Goals as goal
 
 -- The outer line is another, so it stays held when the inner one is ended.
-pub close_or_park-requires-in-Refused : goal.close_or_park-requires-in-Refused
-close_or_park-requires-in-Refused g c =
+pub close_or_park-requires-in-Err : goal.close_or_park-requires-in-Err
+close_or_park-requires-in-Err g c =
     let outer = c.args.outer.line in
-    subst (λ b. held b.line (entries_of c.close_or_park.new.unit.nest) ≡ true) (sym c.in-Refused.ensures.claims.0)
+    subst (λ b. held b.line (entries_of c.close_or_park.new.unit.nest) ≡ true) (sym c.in-Err.ensures.claims.0)
     (c.close_or_park.ensures outer
     (c.in-Start.ensures.another c.requires.sound outer c.requires.held)
-    (c.in-Refused.ensures.claims.1 outer (c.finish-in-Start.ensures.claims outer (c.finish.ensures.claims outer (c.in-Start.ensures.claims.1 outer c.requires.held)))))
+    (c.in-Err.ensures.claims.1 outer (c.finish-in-Start.ensures.claims outer (c.finish.ensures.claims outer (c.in-Start.ensures.claims.1 outer c.requires.held)))))

@@ -1,0 +1,38 @@
+// A call on any controller, and what it brings back.
+// pile_tests has the like: what makes the call would have to be a public function of a library, with a contract of its own,
+// and the two types without it are no more than its words.
+use controller::{Answer, Controller, Refusal};
+
+// Data and no closure, since a row of a script is a constant, and a test that fails prints its call.
+#[derive(Clone, Copy, Debug)]
+pub(crate) enum Call {
+    Rise(u16),
+    Fall(u16),
+    Open(u16),
+    Shut(u16),
+    Finish(u16),
+    Take,
+    Newest,
+    Signal,
+}
+
+// What a call brought back, by the type of its result.
+#[derive(Clone, Copy, PartialEq, Eq, Debug)]
+pub(crate) enum Reply {
+    Said(bool),
+    Line(Option<u16>),
+    Answered(Result<Answer, Refusal>),
+}
+
+pub(crate) fn ask<C: Controller>(unit: &mut C, call: Call) -> Reply {
+    match call {
+        Call::Rise(n) => Reply::Answered(unit.rise(n)),
+        Call::Fall(n) => Reply::Answered(unit.fall(n)),
+        Call::Open(n) => Reply::Answered(unit.open(n)),
+        Call::Shut(n) => Reply::Answered(unit.shut(n)),
+        Call::Finish(n) => Reply::Answered(unit.finish(n)),
+        Call::Take => Reply::Line(unit.take()),
+        Call::Newest => Reply::Line(unit.newest()),
+        Call::Signal => Reply::Said(unit.signal()),
+    }
+}
