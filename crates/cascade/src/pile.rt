@@ -93,6 +93,7 @@ impl<O: Controller, I: Controller> Cascade<O, I> {
 }
 
 impl<O: Controller, I: Controller> Controller for Cascade<O, I> {
+    // Ten members, as the trait is to have them, each of the one value that is meant.
     ghost widths = { λ p. (meant O.Controller I.Controller p).fixed.width };
 
     ghost spans = { λ p. (meant O.Controller I.Controller p).fixed.span };
@@ -167,6 +168,7 @@ impl<O: Controller, I: Controller> Controller for Cascade<O, I> {
 
     // A call on one line goes to the part that has it, as the two questions about a line do. One function for the four would
     // be handed a closure for each part, and its contract would say all of what `part` and `inside` say: that is no plainer.
+    // A call's own clauses stand in place of the trait's, so each repeats them.
     fn rise(&mut self, n: u16) -> Result<Answer, Refusal>
         ensures rule { Keeps (Sound O.Controller I.Controller) (meant O.Controller I.Controller) (λ m m'. Rises m n result m') self.old self.new }
         ensures parts { Unmoved O.Controller I.Controller result self.old self.new }

@@ -35,6 +35,7 @@ impl I8259aController {
 }
 
 impl Controller for I8259aController {
+    // Ten members, as the trait is to have them, each of the one value that is meant.
     ghost widths = { λ c. (meant c.chip).fixed.width };
 
     ghost spans = { λ c. (meant c.chip).fixed.span };

@@ -52,7 +52,7 @@ fn through_dispatchers(rt: &HostRuntime) -> io::Result<()> {
     dispatched::tell(rt, old_unit(), TWO_CHIPS)
 }
 
-// The probe's source 3 is more urgent than the stirrer's source 5.
+// The probe's source 3 is more urgent than the stirrer's source 5. This program's own data, and so not shared.
 fn priorities() -> [u8; 64] {
     let mut priorities = [0; 64];
     priorities[3] = 4;

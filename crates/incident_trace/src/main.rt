@@ -33,7 +33,7 @@ fn through_traces(rt: &HostRuntime, trace: &[u8]) -> io::Result<()> {
     traced::tell(rt, old_unit(), trace, &mut [UNWRITTEN; 2])
 }
 
-// The probe's source 9 is more urgent than the stirrer's source 5.
+// The probe's source 9 is more urgent than the stirrer's source 5. This program's own data, and so not shared.
 fn priorities() -> [u8; 64] {
     let mut priorities = [0; 64];
     priorities[5] = 2;

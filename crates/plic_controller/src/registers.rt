@@ -5,7 +5,7 @@ ghost use Rattle.plic_controller.specs.Steps.{WithBit, ReadsPriority, SetsPriori
 
 use plic::Plic;
 
-// The offsets: the first priority and the first enable word, then the threshold, and the register that claims and completes.
+// The offsets, written out as a driver does: the first priority and the first enable word, then the threshold, and the register that claims and completes.
 const PRIORITIES: u32 = 0x000000;
 
 const ENABLES: u32 = 0x002000;

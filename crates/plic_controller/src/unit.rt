@@ -58,6 +58,7 @@ impl PlicController {
 
 // A call's own clauses stand in place of the trait's: so each repeats the trait's two before the one of its chip.
 impl Controller for PlicController {
+    // Ten members, as the trait is to have them, each of the one value that is meant.
     ghost widths = { λ c. (meant c.chip).fixed.width };
 
     ghost spans = { λ c. (meant c.chip).fixed.span };
