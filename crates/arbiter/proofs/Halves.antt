@@ -1,6 +1,6 @@
 -- The better of two halves is the best of the whole.
 use Rattle.std.proofs.Common.{◌≡◌, ℕ, ◌+◌, ◌-◌, ◌<◌, ◌≤◌, Bool, true, false, ◌⊎◌, List, length, take, drop, Some, None, Option, get_or, sym, ap, ◌∙◌, ⊎_elim, arith}
-use Rattle.std.proofs.lemmas.Bool.{cases_lt, cases_Bool, cond_both, both_ways}
+use Rattle.std.proofs.lemmas.Bool.{cases_lt, false_from_ne_true, cond_both, both_ways}
 use Rattle.std.proofs.lemmas.List.{get_or-take, get_or-drop, length-take, length-drop}
 use Rattle.arbiter.specs.declared.tree.Entrant.{Entrant}
 use Rattle.arbiter.specs.Winning.{Holds}
@@ -53,5 +53,5 @@ module _ {K : Type 0} (leq : K → K → Bool) (total : (a b : K) → (leq a b �
       (λ e. left-best l p (λ j k h. transitive l.key r.key k e (q.4 j k h)))
       (λ e. right-best r b eb q (λ j k h. (
         transitive r.key l.key k (⊎_elim (λ t. absurd (both_ways _ e t)) (λ t. t) (total l.key r.key)) (p.4 j k h),
-        ⊎_elim (λ t. absurd (both_ways _ e (transitive l.key k r.key (p.4 j k h) t))) (λ f. f) (cases_Bool (leq k r.key)),
+        false_from_ne_true _ (λ t. both_ways _ e (transitive l.key k r.key (p.4 j k h) t)),
       )))

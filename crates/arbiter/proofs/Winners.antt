@@ -10,7 +10,7 @@ use Rattle.arbiter.specs.Matches.{Best, leaf_of}
 pub holds-within : {K : Type 0} (xs : List (Option K)) (j : ℕ) (k : K) → Holds xs j k → j < length xs
 holds-within xs j k h =
     ⊎_elim (λ lt. lt)
-    (λ ge. let e : None ≡ Some k = sym (get_or_past xs j None ge) ∙ h in let z : ◌≡◌ {A = ℕ} 0 1 = cc in omega arith)
+    (λ ge. let past = get_or_past xs j None ge in cc)
     (cases_lt j (length xs))
 
 -- The best of all leaves wins.

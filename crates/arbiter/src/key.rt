@@ -2,8 +2,9 @@
 ghost use Rattle.std.specs.Prelude.{◌≡◌, Bool, true, ◌⊎◌, nat_le};
 ghost use Rattle.std.proofs.Common.{rules};
 
-// A key with a total order: `leq a b` says that a comes first or equals b. Not `Ord`, from whose laws it does not follow that
-// keys which lead each other are one and the same; so the two orders below, which differ in one sign, are written out.
+// A key with a total order: `leq a b` says that a comes first or equals b. Not `Ord`: that would ask more of a key than the tree needs,
+// and of the callers who have one. The two orders below differ in one sign; a type that
+// turns an order round would be one more layer.
 pub trait Key {
     ghost leq: { Self → Self → Bool };
 

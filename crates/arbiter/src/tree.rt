@@ -1,4 +1,5 @@
-// A tree of matches over any number of leaves: each match lets the better of two halves go on.
+// A tree of matches over any number of leaves: each match lets the better of two halves go on. A tree and no fold, by a rule of
+// the project: it is how the chips' own arbiters are built.
 ghost use Rattle.std.specs.Prelude.{◌≡◌, ℕ, ◌+◌, ◌^◌, ◌≤◌, length, Option};
 ghost use Rattle.arbiter.specs.Winning.{Winner};
 ghost use Rattle.arbiter.specs.Matches.{Best, played};
@@ -17,9 +18,8 @@ fn play<K: Key + Copy>(left: Option<Entrant<K>>, right: Option<Entrant<K>>) -> O
     ensures { result ≡ played K.leq left right }
 {
     match (left, right) {
-        (Some(l), Some(r)) => { if l.key.leads(r.key) { Some(l) } else { Some(r) } }
-        (Some(l), None) => Some(l),
-        (None, other) => other,
+        (Some(l), Some(r)) => Some(if l.key.leads(r.key) { l } else { r }),
+        (left, right) => left.or(right),
     }
 }
 

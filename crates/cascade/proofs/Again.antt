@@ -1,4 +1,5 @@
 -- Of a tied pair: what the outer is told again of k changes nothing. So an outer that is not told is as one that is.
+-- docs/PORT.md names the lemmas of this file; no proof needs them.
 use Rattle.std.proofs.Common.{◌≡◌, ℕ, Bool, true, false, cond, not, ◌&&◌, ◌||◌, Ok, Err, Result, sym, ap, refl, subst₂, ◌∙◌}
 use Rattle.std.proofs.lemmas.Bool.{both_ways}
 use Rattle.controller.specs.declared.refusal.Refusal.{Refusal}

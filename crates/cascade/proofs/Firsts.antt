@@ -1,7 +1,7 @@
 -- Which line of a pile is ready, and which is first.
 use Rattle.std.proofs.Common.{◌≡◌, ℕ, ◌+◌, ◌*◌, ◌<◌, ◌≤◌, Bool, true, false, List, [], ◌∷◌, sym, refl, ◌∙◌, subst, ⊎_elim, mul-le-mul_right, arith}
 use lib.Arith.{digits_lt}
-use Rattle.std.proofs.lemmas.Bool.{cases_eq, cases_Bool, both_ways, false≢true}
+use Rattle.std.proofs.lemmas.Bool.{cases_eq, true_from_ne_false, both_ways, false≢true}
 use Rattle.controller.specs.Meaning.{Meaning, Lawful, Beats, Ready, FirstReady, NoneReady, among}
 use Rattle.controller.specs.Rules.{Signals}
 use Rattle.cascade.specs.Pile.{pile}
@@ -77,7 +77,7 @@ module _ (a : Meaning) (k : ℕ) (b : Meaning) (la : Lawful a) (lb : Lawful b) (
 
   -- k is ready only while the inner signals.
   pub k-high : Ready a k → a.state.high k ≡ true
-  k-high r = ⊎_elim (λ h. h) (λ low. absurd (both_ways (a.state.waiting k) (la.state.low_fleeting k t.hanging.line t.hanging.fleeting low) r.waiting)) (cases_Bool (a.state.high k))
+  k-high r = true_from_ne_false _ (λ low. both_ways _ (la.state.low_fleeting k t.hanging.line t.hanging.fleeting low) r.waiting)
 
   pub first-outer : (n : ℕ) → (n ≡ k → ⊥) → FirstReady a n → FirstReady (pile a k b) n
   first-outer n ne f =

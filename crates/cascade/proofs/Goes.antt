@@ -21,7 +21,8 @@ module _ {S T : Type 0} (O : Ghosts S) (I : Ghosts T) where
   abbrev pub went : Cascade S T → S → T → Cascade S T
   went p o i = record { outer = o; k = p.k; inner = i }
 
-  -- A refusal that left the outer, or both parts, as they were left the pile as it was.
+  -- A refusal that left the outer, or both parts, as they were left the pile as it was. docs/PORT.md names these two and the
+  -- next; no proof needs them.
   pub unmoved-outer : (p : Cascade S T) (r : Result Answer Refusal) (o : S) → Untouched r p.outer o → Untouched r p (went p o p.inner)
   unmoved-outer p (Ok x) o h = tt
   unmoved-outer p (Err e) o h = ap (λ y. went p y p.inner) h
@@ -32,7 +33,7 @@ module _ {S T : Type 0} (O : Ghosts S) (I : Ghosts T) where
 
   -- A refused call that left the pile as it was left what both parts tell.
   pub unmoved-parts : (p : Cascade S T) (r : Result Answer Refusal) (q : Cascade S T) → Untouched r p q → Unmoved O I r p q
-  unmoved-parts p (Ok x) q h = λ sound e is. let z : ⊥ = cc in absurd z
+  unmoved-parts p (Ok x) q h = λ sound e is. cc
   unmoved-parts p (Err f) q h = λ sound e is. (ap (λ y. meaning O y.outer) h, ap (λ y. meaning I y.inner) h)
 
   -- Parts that fit go on as those of p'.

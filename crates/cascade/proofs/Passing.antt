@@ -12,7 +12,7 @@ use Rattle.cascade.specs.declared.pile.Part.TheVariants.{Outer, Inner}
 use Rattle.cascade.specs.Pile.{pile}
 use Rattle.cascade.specs.Tie.{Hanging, Tied}
 use Rattle.controller.proofs.Refused.{Rule, RefusedSame}
-use Rattle.cascade.specs.Inside.{Informs}
+use Rattle.cascade.specs.Inside.{Informs, KeepsBoth, Passes}
 use Rattle.cascade.specs.Parts.{part_of}
 use Rattle.cascade.specs.Told.{meant, Joined, Sound}
 use Rattle.cascade.specs.Sides.{side-outer, side-inner, line-k, line-outer, line-inner}
@@ -109,17 +109,17 @@ module _ {S T : Type 0} (O : Ghosts S) (I : Ghosts T) (lawO : (o : S) → O.soun
           let done = called (q k at).outer in
           goes O I p (went O I p o p.inner) k (λ m m'. Q m n r m') at refl done.0 (q k at).inner (passes a k b (la k at) (lb k at) (q k at).tied n h.2 h.3 r (meaning O o) done.1)
 
-      pub call-inner : PassesInner Q → RefusedSame Q → (k m : ℕ) → IsPart (Ok (Inner k m)) → (r : Result Answer Refusal) (p' : Cascade S T) → p'.k ≡ p.k → (I.sound p.inner → I.sound p'.inner × Q b m r (meaning I p'.inner)) → Informs O I k r p.outer p'.inner p'.outer → Sound O I p' × Q (meant O I p) n r (meant O I p')
-      call-inner passes same k m told (Ok x) p' kept called informs =
+      pub call-inner : PassesInner Q → RefusedSame Q → (k m : ℕ) → IsPart (Ok (Inner k m)) → (r : Result Answer Refusal) (p' : Cascade S T) → p'.k ≡ p.k → KeepsBoth O I (Passes k Q m r) p.outer p.inner p'.outer p'.inner → Sound O I p' × Q (meant O I p) n r (meant O I p')
+      call-inner passes same k m told (Ok x) p' kept called =
           let h = has (Ok (Inner k m)) told in
           let at = h.0 in
-          let done = calls-pass O I Q k m (Ok x) p.outer p'.outer p.inner p'.inner called informs (q k at).outer (q k at).inner in
+          let done = called (q k at).outer (q k at).inner in
           let both = told-goes a k (meaning I p'.inner) (meaning O p'.outer) (λ y. Q (pile a k b) (a.fixed.width + m) (Ok x) y) (kw k at) (passes a k b (la k at) (lb k at) (q k at).tied.hanging m (Ok x) (meaning I p'.inner) done.2.goes) done.2.tells in
           goes O I p p' k (λ m m'. Q m n (Ok x) m') at kept done.0 done.1 (both.0, subst (λ j. Q (pile a k b) j (Ok x) (pile (meaning O p'.outer) k (meaning I p'.inner))) h.1 both.1)
-      call-inner passes same k m told (Err e) p' kept called informs =
+      call-inner passes same k m told (Err e) p' kept called =
           let h = has (Ok (Inner k m)) told in
           let at = h.0 in
-          let done = calls-pass O I Q k m (Err e) p.outer p'.outer p.inner p'.inner called informs (q k at).outer (q k at).inner in
+          let done = called (q k at).outer (q k at).inner in
           let inside = same b m e (meaning I p'.inner) done.2.0 in
           let passed = (passes a k b (la k at) (lb k at) (q k at).tied.hanging m (Err e) (meaning I p'.inner) done.2.0).1 in
           goes O I p p' k (λ m m'. Q m n (Err e) m') at kept done.0 done.1 (
@@ -127,3 +127,8 @@ module _ {S T : Type 0} (O : Ghosts S) (I : Ghosts T) (lawO : (o : S) → O.soun
             subst (λ x. Q (pile a k b) n (Err e) (pile x k (meaning I p'.inner))) (sym done.2.1)
                 (subst (λ j. Q (pile a k b) j (Err e) (pile a k (meaning I p'.inner))) h.1 passed),
           )
+
+      -- The same of what `inside` says: the inner is called, and then the outer is told.
+      pub call-inside : PassesInner Q → RefusedSame Q → (k m : ℕ) → IsPart (Ok (Inner k m)) → (r : Result Answer Refusal) (p' : Cascade S T) → p'.k ≡ p.k → (I.sound p.inner → I.sound p'.inner × Q b m r (meaning I p'.inner)) → Informs O I k r p.outer p'.inner p'.outer → Sound O I p' × Q (meant O I p) n r (meant O I p')
+      call-inside passes same k m told r p' kept called informs =
+          call-inner passes same k m told r p' kept (calls-pass O I Q k m r p.outer p'.outer p.inner p'.inner called informs)

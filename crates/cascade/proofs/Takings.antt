@@ -183,7 +183,7 @@ module _ (a : Meaning) (k : ℕ) (b : Meaning) (la : Lawful a) (lb : Lawful b) (
   pub finishes-refused : (e : Refusal) (b' : Meaning) → tops a.state.stack k ≡ true → Finishes b m (Err e) b' → Tied a k b' × Finishes (pile a k b) (v + m) (Err e) (pile a k b')
   finishes-refused e b' top h =
       asks-to (is_newest b.state m)
-      (λ here g. let bad = g.0 in let z : ◌≡◌ {A = ℕ} 0 1 = cc in absurd (omega arith))
+      (λ here g. cc)
       (λ under g. (
         subst (λ y. Tied a k y) (sym g.1) t,
         so line (otherwise (top-inner k v b.state.stack a.state.stack m t.hanging.paired top ∙ under) (turns-map (λ y. pile a k y) g)),
@@ -199,7 +199,7 @@ module _ (a : Meaning) (k : ℕ) (b : Meaning) (la : Lawful a) (lb : Lawful b) (
     out = older-out a.fixed k a.state.stack la.state.climbs top
 
     inside : (tops b.state.stack m ≡ true) × Gives (cond (b.state.high m) Accepted Noted) (finished b.state m) b (Ok x) b'
-    inside = asks-to (is_newest b.state m) (λ here g. (here, g)) (λ under g. let bad = g.0 in let z : ◌≡◌ {A = ℕ} 0 1 = cc in absurd (omega arith)) (asks-yes _ _ (b.fixed.line m) sure h)
+    inside = asks-to (is_newest b.state m) (λ here g. (here, g)) (λ under g. cc) (asks-yes _ _ (b.fixed.line m) sure h)
 
     abbrev s₁ : State
     s₁ = told_of a k tells.calls

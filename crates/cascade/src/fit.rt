@@ -11,7 +11,7 @@ const MOST_WIDTH: u32 = 256;
 const MOST_SPAN: u64 = 0x8000_0000;
 
 // Asks whether the inner can be hung from line k of the outer: is k a fleeting line, is nothing in service in either, are
-// they small enough together? Both are as they were.
+// they small enough together? Both are as they were. The three are passed one by one, since they are no pile yet.
 pub fn check<O: Controller, I: Controller>(
     outer: &mut O,
     k: u16,

@@ -35,6 +35,7 @@ impl<O: Controller, I: Controller> Cascade<O, I> {
         ensures sound { O.Controller.sound outer → I.Controller.sound inner → Sound O.Controller I.Controller result }
         ensures makes { O.Controller.sound outer → I.Controller.sound inner → Makes (meaning O.Controller outer) k (meaning I.Controller inner) (meant O.Controller I.Controller result) }
     {
+        // The early way out is that of parts that do not fit.
         if check(&mut outer, k, &mut inner).is_err() {
             return Cascade {
                 outer,
@@ -42,6 +43,7 @@ impl<O: Controller, I: Controller> Cascade<O, I> {
                 inner,
             };
         }
+        // A line of the outer is opened without fail.
         let _ = outer.open(k);
         tell(&mut outer, k, &inner);
         Cascade {
@@ -121,7 +123,8 @@ impl<O: Controller, I: Controller> Controller for Cascade<O, I> {
         (record { widths = I.Controller.widths; spans = I.Controller.spans; lines = I.Controller.lines; classes = I.Controller.classes; fleets = I.Controller.fleets; ranks = I.Controller.ranks; opened = I.Controller.opened; highs = I.Controller.highs; waits = I.Controller.waits; stack = I.Controller.stack; sound = I.Controller.sound })
         O.Controller.lawful I.Controller.lawful };
 
-    // Wrapping: of parts that fit neither the sum of the widths nor the product of the spans overflows.
+    // Wrapping: of parts that fit neither the sum of the widths nor the product of the spans overflows. A match, not
+    // `map_or`, whose closure would take k and not use it, nor `is_some`: the proof goes by the k of the arm.
     fn width(&self) -> u16 {
         match self.k {
             Some(_) => self.outer.width().wrapping_add(self.inner.width()),
@@ -136,6 +139,7 @@ impl<O: Controller, I: Controller> Controller for Cascade<O, I> {
         }
     }
 
+    // Here and below a refusal is an arm beside the parts: with `is_ok_and` the match would stand in a closure.
     fn there(&self, n: u16) -> bool {
         match self.part(n) {
             Ok(Part::Outer) => self.outer.there(n),
@@ -242,6 +246,7 @@ impl<O: Controller, I: Controller> Controller for Cascade<O, I> {
                     return Err(Refusal::NotNewest);
                 }
                 let answer = self.inside(k, |inner| inner.finish(m))?;
+                // Not refused: k is the outer's newest.
                 let _ = self.outer.finish(k);
                 Ok(answer)
             }
@@ -249,7 +254,8 @@ impl<O: Controller, I: Controller> Controller for Cascade<O, I> {
     }
 }
 
-// Tells the outer that k rises if the inner signals, else that k falls.
+// Tells the outer that k rises if the inner signals, else that k falls; k is a line, so neither is refused. No method: of the pile it would
+// have to say besides what it leaves alone.
 fn tell<O: Controller, I: Controller>(outer: &mut O, k: u16, inner: &I)
     ensures { KeepsBoth O.Controller I.Controller (λ a b a' _. Tells a k b a') outer.old inner.now outer.new inner.now }
 {

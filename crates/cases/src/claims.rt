@@ -7,31 +7,35 @@ use std::io;
 
 // The priorities of sources 5 and 9, and the threshold.
 #[derive(Clone, Copy)]
-struct Levels(u32, u32, u32);
+struct Priorities(u32, u32, u32);
 
-const LEVELS: [Levels; 13] = [
-    Levels(3, 0, 3),
-    Levels(4, 0, 3),
-    Levels(3, 3, 3),
-    Levels(3, 4, 3),
-    Levels(4, 4, 0),
-    Levels(4, 4, 7),
-    Levels(4, 6, 0),
-    Levels(6, 4, 5),
-    Levels(0, 1, 0),
-    Levels(0, 0, 0),
-    Levels(7, 7, 7),
-    Levels(12, 3, 3),
-    Levels(8, 1, 8),
+const PRIORITIES: [Priorities; 13] = [
+    Priorities(3, 0, 3),
+    Priorities(4, 0, 3),
+    Priorities(3, 3, 3),
+    Priorities(3, 4, 3),
+    Priorities(4, 4, 0),
+    Priorities(4, 4, 7),
+    Priorities(4, 6, 0),
+    Priorities(6, 4, 5),
+    Priorities(0, 1, 0),
+    Priorities(0, 0, 0),
+    Priorities(7, 7, 7),
+    Priorities(12, 3, 3),
+    Priorities(8, 1, 8),
 ];
 
 pub(crate) fn tell(rt: &HostRuntime) -> io::Result<()> {
-    topic(rt, "PLIC: sources 5 and 9 are enabled and pending", &LEVELS)
+    topic(
+        rt,
+        "PLIC: sources 5 and 9 are enabled and pending",
+        &PRIORITIES,
+    )
 }
 
-impl Case for Levels {
+impl Case for Priorities {
     fn tell(&self, rt: &HostRuntime) -> io::Result<()> {
-        let Levels(five, nine, threshold) = *self;
+        let Priorities(five, nine, threshold) = *self;
         let mut chip = asking(*self);
         let signal = Outcome::from(chip.signal());
         let first = Outcome::from(chip.read(CLAIM_COMPLETE));
@@ -42,8 +46,8 @@ impl Case for Levels {
     }
 }
 
-fn asking(levels: Levels) -> Plic<64> {
-    let Levels(five, nine, threshold) = levels;
+fn asking(priorities: Priorities) -> Plic<64> {
+    let Priorities(five, nine, threshold) = priorities;
     let mut chip = Plic::<64>::new();
     let _ = chip.write(4 * 5, five);
     let _ = chip.write(4 * 9, nine);

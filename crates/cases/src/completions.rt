@@ -99,11 +99,10 @@ impl Case for Completion {
         } = *self;
         let mut chip = standing(*self);
         let _ = chip.write(CLAIM_COMPLETE, number);
-        let before = word(request);
         let line = either(high, "high", "low");
         let bit = either(enabled, "enabled", "not enabled");
-        let after = word(chip.gateway(5).request);
-        println!(rt; "  {before}, {line}, {bit}, complete {number}: {after}")
+        let after = chip.gateway(5).request;
+        println!(rt; "  {request}, {line}, {bit}, complete {number}: {after}")
     }
 }
 
@@ -133,14 +132,6 @@ fn bring(chip: &mut Plic<64>, request: Request) {
             let _ = chip.rise(5);
             let _ = chip.read(CLAIM_COMPLETE);
         }
-    }
-}
-
-fn word(request: Request) -> &'static str {
-    match request {
-        Request::Idle => "IDLE",
-        Request::Pending => "PENDING",
-        Request::Claimed => "CLAIMED",
     }
 }
 

@@ -103,7 +103,7 @@ fn sizes<O: Controller + Drop>(mut three: O) -> [Asked; 8] {
     [third, small, large, gone, inner, both, none, outer]
 }
 
-// Puts line n into service.
+// Puts line n into service; pile_tests has the like, which asserts.
 fn serve<C: Controller>(part: &mut C, n: u16) {
     let _ = part.open(n);
     let _ = part.rise(n);

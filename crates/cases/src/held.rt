@@ -1,7 +1,5 @@
 // Claims that are out while other calls are made. dispatch_tests asserts what this prints.
-ghost use Rattle.std.specs.Prelude.{◌≡◌, true};
-ghost use Rattle.service.specs.Nests.{held};
-ghost use Rattle.dispatch.specs.Snapshots.{snapshot, Sound};
+ghost use Rattle.dispatch.specs.Snapshots.{Holds, Sound};
 
 use crate::outcome::{Outcome, Told};
 use crate::parts;
@@ -11,6 +9,9 @@ use controller::Controller;
 use dispatch::{Claim, Dispatcher, Refused, Taken};
 use i8259a_controller::I8259aController;
 use std::io;
+
+// A row for a call that was not reached. The tables are arrays, since a claim that is out leaves no way for the `?` of a print or a push.
+const NOT_CALLED: Told = Told("not called", Outcome::Nothing);
 
 pub(crate) fn tell(rt: &HostRuntime) -> io::Result<()> {
     topic(
@@ -38,43 +39,53 @@ fn nested<C: Controller + Drop>(controller: C) -> [Told; 6]
             let _ = unit.rise(2);
             interrupted(&mut unit, claim)
         }
-        Taken::Spurious { depth } => [Told("take", Outcome::Spurious { depth }); 6],
+        Taken::Spurious { depth } => {
+            let spurious = Told::new("take", Outcome::Spurious { depth });
+            [
+                spurious, NOT_CALLED, NOT_CALLED, NOT_CALLED, NOT_CALLED, NOT_CALLED,
+            ]
+        }
     }
 }
 
 // An inner handler is started while the outer one holds its claim.
 fn interrupted<C: Controller>(unit: &mut Dispatcher<C>, outer: Claim) -> [Told; 6]
     requires sound { Sound C.Controller unit.old }
-    requires held { held outer.line (snapshot C.Controller unit.old).nest ≡ true }
+    requires held { Holds C.Controller unit.old outer }
 {
-    let mut told = [Told("not called", Outcome::Nothing); 6];
     match unit.take() {
         Taken::Start {
             depth,
             claim: inner,
         } => {
             let line = inner.line();
-            told[0] = Told::new("take", Outcome::Start { line, depth });
-            told[1] = Told::new("finish 2", unit.finish(2));
-            told[2] = Told::new("finish 5", unit.finish(5));
+            let taken = Told::new("take", Outcome::Start { line, depth });
+            let newest = Told::new("finish 2", unit.finish(2));
+            let below = Told::new("finish 5", unit.finish(5));
             match unit.close(outer) {
                 Ok(end) => {
-                    told[3] = Told::new("close 5", end);
                     park(unit, inner);
+                    let closed = Told::new("close 5", end);
+                    [taken, newest, below, closed, NOT_CALLED, NOT_CALLED]
                 }
-                Err(Refused { why, claim }) => {
-                    told[3] = Told::new("close 5", Outcome::Refused(why));
-                    told[4] = Told::new("close 2", close_or_park(unit, inner));
-                    told[5] = Told::new("close 5", close_or_park(unit, claim));
-                }
+                Err(Refused { why, claim }) => [
+                    taken,
+                    newest,
+                    below,
+                    Told::new("close 5", Outcome::Refused(why)),
+                    Told::new("close 2", close_or_park(unit, inner)),
+                    Told::new("close 5", close_or_park(unit, claim)),
+                ],
             }
         }
         Taken::Spurious { depth } => {
-            told[0] = Told::new("take", Outcome::Spurious { depth });
             park(unit, outer);
+            let spurious = Told::new("take", Outcome::Spurious { depth });
+            [
+                spurious, NOT_CALLED, NOT_CALLED, NOT_CALLED, NOT_CALLED, NOT_CALLED,
+            ]
         }
     }
-    told
 }
 
 // Both dispatchers start line 3; one has it parked when the other's claim comes to it.
@@ -89,28 +100,35 @@ fn strayed() -> [Told; 4] {
 
 // A claim taken at one dispatcher is put to another.
 fn lent<C: Controller>(unit: &mut Dispatcher<C>, other: &mut Dispatcher<C>) -> [Told; 4] {
-    let mut told = [Told("not called", Outcome::Nothing); 4];
     match unit.take() {
         Taken::Start { depth, claim } => {
             let line = claim.line();
-            told[0] = Told::new("take", Outcome::Start { line, depth });
+            let taken = Told::new("take", Outcome::Start { line, depth });
             match other.park(claim) {
-                Ok(()) => told[1] = Told::new("park at the other", Outcome::Done),
+                Ok(()) => {
+                    let parked = Told::new("park at the other", Outcome::Done);
+                    [taken, parked, NOT_CALLED, NOT_CALLED]
+                }
                 Err(Refused { why, claim }) => {
-                    told[1] = Told::new("park at the other", Outcome::Refused(why));
+                    let parked = Told::new("park at the other", Outcome::Refused(why));
                     match other.close(claim) {
                         Ok(end) => {
-                            told[2] = Told::new("close at the other", end);
+                            let closed = Told::new("close at the other", end);
+                            [taken, parked, closed, NOT_CALLED]
                         }
-                        Err(Refused { why, claim }) => {
-                            told[2] = Told::new("close at the other", Outcome::Refused(why));
-                            told[3] = Told::new("close", close_or_park(unit, claim));
-                        }
+                        Err(Refused { why, claim }) => [
+                            taken,
+                            parked,
+                            Told::new("close at the other", Outcome::Refused(why)),
+                            Told::new("close", close_or_park(unit, claim)),
+                        ],
                     }
                 }
             }
         }
-        Taken::Spurious { depth } => told[0] = Told::new("take", Outcome::Spurious { depth }),
+        Taken::Spurious { depth } => {
+            let spurious = Told::new("take", Outcome::Spurious { depth });
+            [spurious, NOT_CALLED, NOT_CALLED, NOT_CALLED]
+        }
     }
-    told
 }

@@ -1,9 +1,10 @@
 // What came back of a call, in one form that can be kept and printed: a table has calls of many kinds, so it is one enum and
-// not the result of each call.
+// not the result of each call. The words yes and no are those of a question.
 use crate::report::Case;
-use controller::{Answer, Refusal};
+use controller::{Answer, Numbered, Refusal};
 use dispatch::Ended;
 use std::{fmt, io};
+use trace::Record;
 
 #[derive(Clone, Copy)]
 pub(crate) enum Outcome {
@@ -60,6 +61,7 @@ impl From<bool> for Outcome {
     }
 }
 
+// Three widths, each by its own impl: one over all types that convert into `u32` would overlap that of `bool`.
 impl From<u8> for Outcome {
     fn from(value: u8) -> Outcome {
         Outcome::Number(u32::from(value))
@@ -85,6 +87,19 @@ impl From<Option<u16>> for Outcome {
     }
 }
 
+// A record of a trace, or its end.
+impl From<Option<Record<'_>>> for Outcome {
+    fn from(next: Option<Record<'_>>) -> Outcome {
+        match next {
+            Some(record) => Outcome::Record {
+                length: record.bytes.len(),
+                place: record.place,
+            },
+            None => Outcome::EndOfTrace,
+        }
+    }
+}
+
 impl From<Answer> for Outcome {
     fn from(answer: Answer) -> Outcome {
         Outcome::Answered(answer)
@@ -107,6 +122,7 @@ impl fmt::Display for Outcome {
             Outcome::Nothing => f.write_str("NONE"),
             Outcome::Number(value) => write!(f, "{value}"),
             Outcome::Answered(answer) => write!(f, "{answer}"),
+            // By hand, as in `incident`: what a take brings back holds the claim, which is spent before anything is printed.
             Outcome::Start { line, depth } => write!(f, "START {line}, depth {depth}"),
             Outcome::Spurious { depth } => write!(f, "SPURIOUS, depth {depth}"),
             Outcome::End(end) => write!(f, "{end}"),
@@ -114,10 +130,7 @@ impl fmt::Display for Outcome {
                 write!(f, "record of length {length} at place {place}")
             }
             Outcome::EndOfTrace => f.write_str("END"),
-            Outcome::Refused(why) => {
-                let number = why.number();
-                write!(f, "refused ({number}), {why}")
-            }
+            Outcome::Refused(why) => write!(f, "{}", Numbered(why)),
         }
     }
 }

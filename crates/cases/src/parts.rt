@@ -5,7 +5,7 @@ use i8259a::{I8259a, set_up};
 use i8259a_controller::I8259aController;
 use plic_controller::PlicController;
 
-// Offsets of a PLIC's registers. Whoever drives one writes them out, as a driver does: the chip's own map is its own.
+// Offsets of a PLIC's registers. They are numbers of its specification, which a driver writes out.
 pub(crate) const ENABLE: u32 = 0x002000;
 
 pub(crate) const THRESHOLD: u32 = 0x200000;

@@ -1,9 +1,6 @@
-// Ways to spend a claim. What they require of it no public function may require, so the crates incident and dispatch_tests
-// have theirs.
-ghost use Rattle.std.specs.Prelude.{◌≡◌, true};
-ghost use Rattle.service.specs.Nests.{held};
-ghost use Rattle.dispatch.specs.Claims.{OthersStayHeld};
-ghost use Rattle.dispatch.specs.Snapshots.{snapshot};
+// Ways to spend a claim. What they require of it no public function may require, so incident, long_runs and
+// dispatch_tests have theirs.
+ghost use Rattle.dispatch.specs.Snapshots.{Holds, KeepsOtherClaims};
 
 use crate::outcome::Outcome;
 use controller::{Controller, Refusal};
@@ -11,18 +8,10 @@ use dispatch::{Claim, Dispatcher, Ended, Refused, Taken};
 
 // A claim that is held is parked without fail.
 pub(crate) fn park<C: Controller>(unit: &mut Dispatcher<C>, claim: Claim)
-    requires { held claim.line (snapshot C.Controller unit.old).nest ≡ true }
-    ensures { OthersStayHeld claim.line (snapshot C.Controller unit.old).nest (snapshot C.Controller unit.new).nest }
+    requires { Holds C.Controller unit.old claim }
+    ensures { KeepsOtherClaims C.Controller claim unit.old unit.new }
 {
-    match unit.park(claim) {
-        Ok(()) => {}
-        Err(
-            Refused {
-                why: _,
-                claim: _back,
-            },
-        ) => unreachable(),
-    }
+    unit.park(claim).unwrap();
 }
 
 // Takes, and parks what was started. dispatch_tests has the like: shared, it would be one more call of the dispatcher.
@@ -42,8 +31,8 @@ pub(crate) fn close_or_park<C: Controller>(
     unit: &mut Dispatcher<C>,
     claim: Claim,
 ) -> Result<Ended, Refusal>
-    requires { held claim.line (snapshot C.Controller unit.old).nest ≡ true }
-    ensures { OthersStayHeld claim.line (snapshot C.Controller unit.old).nest (snapshot C.Controller unit.new).nest }
+    requires { Holds C.Controller unit.old claim }
+    ensures { KeepsOtherClaims C.Controller claim unit.old unit.new }
 {
     match unit.close(claim) {
         Ok(ended) => Ok(ended),

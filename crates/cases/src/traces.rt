@@ -1,9 +1,8 @@
 // What the reader answers to maps, cut records and whole traces.
 use crate::outcome::Outcome;
 use crate::report::{Case, topic};
-use controller::Refusal;
 use std::io;
-use trace::{Next, Reader, survey_trace};
+use trace::{Reader, survey_trace};
 
 // A map, and how many bytes come after it.
 #[derive(Clone, Copy)]
@@ -67,7 +66,7 @@ impl Case for Cut {
         let Cut(map, more) = *self;
         let bytes = [map, 1, 2, 3, 4];
         let mut reader = Reader::new(&bytes[0..more.min(4) + 1]);
-        let came = read(reader.next_record());
+        let came = Outcome::from(reader.next_record().record());
         println!(rt; "  0x{map:02x} and {more} more: {came}")
     }
 }
@@ -78,22 +77,7 @@ impl Case for Trace {
         let survey = survey_trace(bytes);
         let records = survey.records;
         let done = survey.bytes;
-        let end = ended(survey.fault);
+        let end = survey.fault.map_or(Outcome::EndOfTrace, Outcome::Refused);
         println!(rt; "  {what}: records {records}, bytes {done}, then {end}")
     }
-}
-
-fn read(next: Next) -> Outcome {
-    if let Next::Record(record) = next {
-        return Outcome::Record {
-            length: record.bytes.len(),
-            place: record.place,
-        };
-    }
-    ended(next.fault())
-}
-
-// The end of a trace, or the fault before it.
-fn ended(fault: Option<Refusal>) -> Outcome {
-    fault.map_or(Outcome::EndOfTrace, Outcome::Refused)
 }

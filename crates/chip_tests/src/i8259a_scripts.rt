@@ -1,29 +1,12 @@
-// Scripts of calls on a bare 8259A with the answers that its rules give.
-use crate::script::Reply::{Done, Signals, Value};
-use crate::script::{Answer, Script, Step, run};
+// Scripts of calls on a bare 8259A with the replies that its rules give.
+use crate::commands::{END, END_OF, ICW1, ICW2, ICW3, ICW4, READ_IRR, READ_ISR};
+use crate::script::Told::{Done, Signals, Value};
+use crate::script::{Reply, Script, Step, run};
 use Call::{Acknowledge, Fall, Read, Rise, SetUp, Signal, Write};
 use controller::Refusal::{NoSuchAddress, NotALine, NotModelled, NotSetUp};
 use i8259a::{I8259a, set_up};
 use std::process::Abort;
 use std::test::Fail;
-
-// Bytes to port 0.
-const ICW1: u8 = 0x19;
-
-const END: u8 = 0x20;
-
-const END_OF: u8 = 0x60;
-
-const READ_IRR: u8 = 0x0a;
-
-const READ_ISR: u8 = 0x0b;
-
-// Bytes of the set-up to port 1.
-const ICW2: u8 = 0x20;
-
-const ICW3: u8 = 0x04;
-
-const ICW4: u8 = 0x01;
 
 // Data and no closure, since a row of a script is a constant, and a test that fails prints its call.
 #[derive(Clone, Copy, Debug)]
@@ -325,7 +308,7 @@ const SCRIPTS: [Script<Call>; 15] = [
     },
 ];
 
-fn answer_of(chip: &mut I8259a, call: Call) -> Answer {
+fn ask(chip: &mut I8259a, call: Call) -> Reply {
     match call {
         SetUp => set_up(chip, ICW2, ICW3).map(|()| Done),
         Rise(line) => chip.rise(line).map(|()| Done),
@@ -338,38 +321,23 @@ fn answer_of(chip: &mut I8259a, call: Call) -> Answer {
 }
 
 // A refused call changes nothing.
-fn checked_answer(rt: &impl Abort, chip: &mut I8259a, call: Call) -> Answer {
+fn ask_checked(rt: &impl Abort, chip: &mut I8259a, call: Call) -> Reply {
     let before = *chip;
-    let answer = answer_of(chip, call);
-    assert!(rt; answer.is_ok() || *chip == before, "{call:?}");
-    answer
+    let reply = ask(chip, call);
+    assert!(rt; reply.is_ok() || *chip == before, "{call:?}");
+    reply
 }
 
 #[test]
 fn scripts_are_answered(rt: HostRuntime) {
     for script in &SCRIPTS {
         let mut chip = I8259a::new();
-        run(&rt, script, |call| checked_answer(&rt, &mut chip, call));
+        run(&rt, script, |call| ask_checked(&rt, &mut chip, call));
     }
 }
 
-// A line and its bit in the registers.
-struct Line(u16, u8);
-
-const LINES: [Line; 8] = [
-    Line(0, 0x01),
-    Line(1, 0x02),
-    Line(2, 0x04),
-    Line(3, 0x08),
-    Line(4, 0x10),
-    Line(5, 0x20),
-    Line(6, 0x40),
-    Line(7, 0x80),
-];
-
-// A line alone: it signals, and both registers show it.
-fn check_line(rt: &impl Abort, line: &Line) -> Result<(), Fail> {
-    let &Line(n, bit) = line;
+// A line alone: it signals, and both registers show its bit.
+fn check_line(rt: &impl Abort, n: u16, bit: u8) -> Result<(), Fail> {
     let mut chip = I8259a::new();
     set_up(&mut chip, ICW2, ICW3)?;
     chip.rise(n)?;
@@ -383,8 +351,8 @@ fn check_line(rt: &impl Abort, line: &Line) -> Result<(), Fail> {
 
 #[test]
 fn every_line_is_served(rt: HostRuntime) -> Result<(), Fail> {
-    for line in &LINES {
-        check_line(&rt, line)?;
+    for n in 0..8u8 {
+        check_line(&rt, u16::from(n), 1 << n)?;
     }
     Ok(())
 }
@@ -400,7 +368,7 @@ fn restarted(icw2: u8, icw3: u8) -> Result<I8259a, Fail> {
 // No port shows the bytes of ICW2 and ICW3, but a comparison of chips does.
 #[test]
 fn icw1_forgets_icw3_and_keeps_icw2(rt: HostRuntime) -> Result<(), Fail> {
-    assert!(rt; restarted(0x20, 0x04)? == restarted(0x20, 0xff)?);
-    assert!(rt; restarted(0x20, 0x04)? != restarted(0x28, 0x04)?);
+    assert_eq!(rt; restarted(0x20, 0x04)?, restarted(0x20, 0xff)?);
+    assert_ne!(rt; restarted(0x20, 0x04)?, restarted(0x28, 0x04)?);
     Ok(())
 }

@@ -1,4 +1,6 @@
 // Every byte to every port at every step of the set-up, against one table of rules.
+use crate::commands::{ICW1, ICW2, ICW3, ICW4, READ_ISR};
+use SetUpStep::{Icw1, Icw2, Icw3, Icw4, Nothing};
 use controller::Refusal;
 use controller::Refusal::{NoSuchAddress, NotModelled, NotSetUp};
 use i8259a::I8259a;
@@ -7,7 +9,7 @@ use std::test::Fail;
 
 // What the set-up waits for.
 #[derive(Clone, Copy, PartialEq, Eq, Debug)]
-enum Step {
+enum SetUpStep {
     Icw1,
     Icw2,
     Icw3,
@@ -15,18 +17,12 @@ enum Step {
     Nothing,
 }
 
-const STEPS: [Step; 5] = [
-    Step::Icw1,
-    Step::Icw2,
-    Step::Icw3,
-    Step::Icw4,
-    Step::Nothing,
-];
+const STEPS: [SetUpStep; 5] = [Icw1, Icw2, Icw3, Icw4, Nothing];
 
 const PORTS: [u8; 4] = [0, 1, 2, 255];
 
 // A step, or none for every step; a port; a pattern of the byte's bits 7 to 0, x for either; and the answer.
-struct Rule(Option<Step>, u8, &'static [u8; 8], Result<(), Refusal>);
+struct Rule(Option<SetUpStep>, u8, &'static [u8; 8], Result<(), Refusal>);
 
 const RULES: [Rule; 20] = [
     Rule(None, 2, b"xxxxxxxx", Err(NoSuchAddress)),
@@ -35,25 +31,25 @@ const RULES: [Rule; 20] = [
     Rule(None, 0, b"xxx11x01", Ok(())),
     Rule(None, 0, b"xxx1xxxx", Err(NotModelled)),
     // before the set-up is complete
-    Rule(Some(Step::Icw1), 0, b"xxxxxxxx", Err(NotSetUp)),
-    Rule(Some(Step::Icw2), 0, b"xxxxxxxx", Err(NotSetUp)),
-    Rule(Some(Step::Icw3), 0, b"xxxxxxxx", Err(NotSetUp)),
-    Rule(Some(Step::Icw4), 0, b"xxxxxxxx", Err(NotSetUp)),
-    Rule(Some(Step::Icw1), 1, b"xxxxxxxx", Err(NotSetUp)),
-    Rule(Some(Step::Icw2), 1, b"xxxxxxxx", Ok(())),
-    Rule(Some(Step::Icw3), 1, b"xxxxxxxx", Ok(())),
-    Rule(Some(Step::Icw4), 1, b"00000001", Ok(())),
-    Rule(Some(Step::Icw4), 1, b"xxxxxxxx", Err(NotModelled)),
+    Rule(Some(Icw1), 0, b"xxxxxxxx", Err(NotSetUp)),
+    Rule(Some(Icw2), 0, b"xxxxxxxx", Err(NotSetUp)),
+    Rule(Some(Icw3), 0, b"xxxxxxxx", Err(NotSetUp)),
+    Rule(Some(Icw4), 0, b"xxxxxxxx", Err(NotSetUp)),
+    Rule(Some(Icw1), 1, b"xxxxxxxx", Err(NotSetUp)),
+    Rule(Some(Icw2), 1, b"xxxxxxxx", Ok(())),
+    Rule(Some(Icw3), 1, b"xxxxxxxx", Ok(())),
+    Rule(Some(Icw4), 1, b"00000001", Ok(())),
+    Rule(Some(Icw4), 1, b"xxxxxxxx", Err(NotModelled)),
     // the mask
-    Rule(Some(Step::Nothing), 1, b"xxxxxxxx", Ok(())),
+    Rule(Some(Nothing), 1, b"xxxxxxxx", Ok(())),
     // OCW2
-    Rule(Some(Step::Nothing), 0, b"00100xxx", Ok(())),
-    Rule(Some(Step::Nothing), 0, b"01000xxx", Ok(())),
-    Rule(Some(Step::Nothing), 0, b"01100xxx", Ok(())),
-    Rule(Some(Step::Nothing), 0, b"xxx00xxx", Err(NotModelled)),
+    Rule(Some(Nothing), 0, b"00100xxx", Ok(())),
+    Rule(Some(Nothing), 0, b"01000xxx", Ok(())),
+    Rule(Some(Nothing), 0, b"01100xxx", Ok(())),
+    Rule(Some(Nothing), 0, b"xxx00xxx", Err(NotModelled)),
     // OCW3
-    Rule(Some(Step::Nothing), 0, b"00x010xx", Ok(())),
-    Rule(Some(Step::Nothing), 0, b"xxx01xxx", Err(NotModelled)),
+    Rule(Some(Nothing), 0, b"00x010xx", Ok(())),
+    Rule(Some(Nothing), 0, b"xxx01xxx", Err(NotModelled)),
 ];
 
 // Whether a byte has the bits of a pattern, from bit 7 down.
@@ -68,7 +64,7 @@ fn matches(pattern: &[u8; 8], byte: u8) -> bool {
 // A byte that is written to a port while the set-up waits at a step.
 #[derive(Clone, Copy, Debug)]
 struct Write {
-    step: Step,
+    step: SetUpStep,
     port: u8,
     byte: u8,
 }
@@ -83,18 +79,18 @@ impl Rule {
 }
 
 // The first rule that fits counts.
-fn rule_for(write: Write) -> Result<&'static Rule, Fail> {
+fn rule_for(rt: &impl Abort, write: Write) -> &'static Rule {
     RULES
         .iter()
         .find(|rule| rule.fits(write))
-        .ok_or_else(|| Fail::new("no rule fits"))
+        .expect(rt, "the rules are for every write")
 }
 
 // The set-up's writes, port and byte.
-const SET_UP: [(u8, u8); 4] = [(0, 0x19), (1, 0x20), (1, 0x04), (1, 0x01)];
+const SET_UP: [(u8, u8); 4] = [(0, ICW1), (1, ICW2), (1, ICW3), (1, ICW4)];
 
 // A chip that waits at a step, with two lines high.
-fn waiting(step: Step) -> Result<I8259a, Fail> {
+fn waiting(step: SetUpStep) -> Result<I8259a, Fail> {
     let mut chip = I8259a::new();
     chip.rise(2)?;
     chip.rise(5)?;
@@ -105,35 +101,34 @@ fn waiting(step: Step) -> Result<I8259a, Fail> {
 }
 
 // The same, and once it is set up it has a level in service, a mask and the in-service register selected.
-fn busy(step: Step) -> Result<I8259a, Fail> {
+fn busy(step: SetUpStep) -> Result<I8259a, Fail> {
     let mut chip = waiting(step)?;
-    if step == Step::Nothing {
+    if step == Nothing {
         chip.acknowledge()?;
         chip.write(1, 0xa0)?;
-        chip.write(0, 0x0b)?;
+        chip.write(0, READ_ISR)?;
     }
     Ok(chip)
 }
 
 // The answer is the table's, and a refused write changes nothing.
-fn check_write(rt: &impl Abort, before: I8259a, write: Write) -> Result<(), Fail> {
-    let Rule(.., expected) = rule_for(write)?;
+fn check_write(rt: &impl Abort, before: I8259a, write: Write) {
+    let Rule(.., expected) = rule_for(rt, write);
     let mut chip = before;
     let answer = chip.write(write.port, write.byte);
     let after = if expected.is_ok() { chip } else { before };
     assert_eq!(rt; (answer, chip), (*expected, after), "{write:?}");
-    Ok(())
 }
 
-fn check_port(rt: &impl Abort, step: Step, port: u8) -> Result<(), Fail> {
+fn check_port(rt: &impl Abort, step: SetUpStep, port: u8) -> Result<(), Fail> {
     let chip = busy(step)?;
     for byte in 0..=u8::MAX {
-        check_write(rt, chip, Write { step, port, byte })?;
+        check_write(rt, chip, Write { step, port, byte });
     }
     Ok(())
 }
 
-fn check_step(rt: &impl Abort, step: Step) -> Result<(), Fail> {
+fn check_step(rt: &impl Abort, step: SetUpStep) -> Result<(), Fail> {
     for port in PORTS {
         check_port(rt, step, port)?;
     }

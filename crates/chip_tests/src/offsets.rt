@@ -1,6 +1,11 @@
-// The offsets of a PLIC's registers.
+// The offsets of a PLIC's registers, written out from its specification: by constants of the chip's own a test of the map would check the
+// map against itself.
 
 // The priorities of some sources.
+pub(crate) const PRIORITY_0: u32 = 0;
+
+pub(crate) const PRIORITY_1: u32 = 4;
+
 pub(crate) const PRIORITY_5: u32 = 4 * 5;
 
 pub(crate) const PRIORITY_9: u32 = 4 * 9;

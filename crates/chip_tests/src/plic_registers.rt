@@ -1,61 +1,64 @@
-// Which offsets of a PLIC exist, and what its registers keep.
-use crate::offsets::{ALL, CLAIM_COMPLETE, ENABLE};
+// Which offsets of a PLIC exist, what its registers keep, and the gateway record of each number.
+use crate::offsets::{
+    ALL, CLAIM_COMPLETE, ENABLE, ENABLE_HIGH, PENDING, PENDING_HIGH, PRIORITY_0, PRIORITY_1,
+    PRIORITY_5, PRIORITY_9, PRIORITY_63, THRESHOLD,
+};
 use controller::Refusal;
-use plic::Plic;
+use controller::Refusal::NoSuchAddress;
+use plic::{Gateway, Plic, Request};
 use std::process::Abort;
 use std::test::Fail;
 
-// An offset of a PLIC with 64 numbers, and whether a register lies there.
-struct Place(u32, bool);
+// An offset of a PLIC with 64 numbers, and the answer to a write there.
+struct Place(u32, Result<(), Refusal>);
 
 const PLACES: [Place; 36] = [
     // priorities
-    Place(0x00_0000, true),
-    Place(0x00_0001, false),
-    Place(0x00_0002, false),
-    Place(0x00_0003, false),
-    Place(0x00_0004, true),
-    Place(0x00_00fc, true),
-    Place(0x00_00fd, false),
-    Place(0x00_0100, false),
-    Place(0x00_0ffc, false),
+    Place(0x00_0000, Ok(())),
+    Place(0x00_0001, Err(NoSuchAddress)),
+    Place(0x00_0002, Err(NoSuchAddress)),
+    Place(0x00_0003, Err(NoSuchAddress)),
+    Place(0x00_0004, Ok(())),
+    Place(0x00_00fc, Ok(())),
+    Place(0x00_00fd, Err(NoSuchAddress)),
+    Place(0x00_0100, Err(NoSuchAddress)),
+    Place(0x00_0ffc, Err(NoSuchAddress)),
     // pending bits
-    Place(0x00_1000, true),
-    Place(0x00_1001, false),
-    Place(0x00_1003, false),
-    Place(0x00_1004, true),
-    Place(0x00_1006, false),
-    Place(0x00_1008, false),
-    Place(0x00_107c, false),
-    Place(0x00_1ffc, false),
+    Place(0x00_1000, Ok(())),
+    Place(0x00_1001, Err(NoSuchAddress)),
+    Place(0x00_1003, Err(NoSuchAddress)),
+    Place(0x00_1004, Ok(())),
+    Place(0x00_1006, Err(NoSuchAddress)),
+    Place(0x00_1008, Err(NoSuchAddress)),
+    Place(0x00_107c, Err(NoSuchAddress)),
+    Place(0x00_1ffc, Err(NoSuchAddress)),
     // enable bits
-    Place(0x00_2000, true),
-    Place(0x00_2002, false),
-    Place(0x00_2004, true),
-    Place(0x00_2005, false),
-    Place(0x00_2008, false),
-    Place(0x00_207c, false),
-    Place(0x00_2080, false),
-    Place(0x00_3000, false),
+    Place(0x00_2000, Ok(())),
+    Place(0x00_2002, Err(NoSuchAddress)),
+    Place(0x00_2004, Ok(())),
+    Place(0x00_2005, Err(NoSuchAddress)),
+    Place(0x00_2008, Err(NoSuchAddress)),
+    Place(0x00_207c, Err(NoSuchAddress)),
+    Place(0x00_2080, Err(NoSuchAddress)),
+    Place(0x00_3000, Err(NoSuchAddress)),
     // threshold, and claim and complete
-    Place(0x1f_fffc, false),
-    Place(0x20_0000, true),
-    Place(0x20_0001, false),
-    Place(0x20_0004, true),
-    Place(0x20_0007, false),
-    Place(0x20_0008, false),
-    Place(0x20_1000, false),
-    Place(0x40_0000, false),
-    Place(0x8000_0000, false),
-    Place(0xffff_fffc, false),
-    Place(0xffff_ffff, false),
+    Place(0x1f_fffc, Err(NoSuchAddress)),
+    Place(0x20_0000, Ok(())),
+    Place(0x20_0001, Err(NoSuchAddress)),
+    Place(0x20_0004, Ok(())),
+    Place(0x20_0007, Err(NoSuchAddress)),
+    Place(0x20_0008, Err(NoSuchAddress)),
+    Place(0x20_1000, Err(NoSuchAddress)),
+    Place(0x40_0000, Err(NoSuchAddress)),
+    Place(0x8000_0000, Err(NoSuchAddress)),
+    Place(0xffff_fffc, Err(NoSuchAddress)),
+    Place(0xffff_ffff, Err(NoSuchAddress)),
 ];
 
 fn check_place(rt: &impl Abort, chip: &mut Plic<64>, place: &Place) {
-    let &Place(offset, exists) = place;
-    let found = exists.then_some(()).ok_or(Refusal::NoSuchAddress);
-    assert_eq!(rt; chip.read(offset), found.map(|()| 0), "offset {offset}");
-    assert_eq!(rt; chip.write(offset, 0), found, "offset {offset}");
+    let &Place(offset, answer) = place;
+    assert_eq!(rt; chip.read(offset), answer.map(|()| 0), "offset {offset}");
+    assert_eq!(rt; chip.write(offset, 0), answer, "offset {offset}");
 }
 
 // How many offsets from 0 on, up to past the last register, can be read.
@@ -81,27 +84,27 @@ struct Kept(u32, u32, u32);
 
 const KEPT: [Kept; 18] = [
     // priorities keep three bits, and source 0 none
-    Kept(0x00_0000, 7, 0),
-    Kept(0x00_0000, 0xffff_ffff, 0),
-    Kept(0x00_0004, 0xffff_ffff, 7),
-    Kept(0x00_0004, 8, 0),
-    Kept(0x00_0014, 0xffff_fff5, 5),
-    Kept(0x00_00fc, 0x0000_0102, 2),
+    Kept(PRIORITY_0, 7, 0),
+    Kept(PRIORITY_0, 0xffff_ffff, 0),
+    Kept(PRIORITY_1, 0xffff_ffff, 7),
+    Kept(PRIORITY_1, 8, 0),
+    Kept(PRIORITY_5, 0xffff_fff5, 5),
+    Kept(PRIORITY_63, 0x0000_0102, 2),
     // pending bits cannot be written
-    Kept(0x00_1000, 0xffff_ffff, 0x0000_0200),
-    Kept(0x00_1000, 0, 0x0000_0200),
-    Kept(0x00_1004, 0xffff_ffff, 0x8000_0000),
-    Kept(0x00_1004, 0, 0x8000_0000),
+    Kept(PENDING, 0xffff_ffff, 0x0000_0200),
+    Kept(PENDING, 0, 0x0000_0200),
+    Kept(PENDING_HIGH, 0xffff_ffff, 0x8000_0000),
+    Kept(PENDING_HIGH, 0, 0x8000_0000),
     // every enable bit but that of source 0
-    Kept(0x00_2000, 0x0000_0001, 0),
-    Kept(0x00_2000, 0xa5a5_a5a5, 0xa5a5_a5a4),
-    Kept(0x00_2000, 0xffff_ffff, 0xffff_fffe),
-    Kept(0x00_2004, 0x5a5a_5a5b, 0x5a5a_5a5b),
-    Kept(0x00_2004, 0xffff_ffff, 0xffff_ffff),
+    Kept(ENABLE, 0x0000_0001, 0),
+    Kept(ENABLE, 0xa5a5_a5a5, 0xa5a5_a5a4),
+    Kept(ENABLE, 0xffff_ffff, 0xffff_fffe),
+    Kept(ENABLE_HIGH, 0x5a5a_5a5b, 0x5a5a_5a5b),
+    Kept(ENABLE_HIGH, 0xffff_ffff, 0xffff_ffff),
     // the threshold keeps three bits
-    Kept(0x20_0000, 0xffff_fffe, 6),
-    Kept(0x20_0000, 0x0000_0008, 0),
-    Kept(0x20_0000, 7, 7),
+    Kept(THRESHOLD, 0xffff_fffe, 6),
+    Kept(THRESHOLD, 0x0000_0008, 0),
+    Kept(THRESHOLD, 7, 7),
 ];
 
 // The same is read twice in a row.
@@ -138,7 +141,7 @@ fn all_high() -> Result<Plic<64>, Fail> {
 fn one_with_priority(source: u8) -> Result<Plic<64>, Fail> {
     let mut chip = all_high()?;
     chip.write(ENABLE, ALL)?;
-    chip.write(ENABLE + 4, ALL)?;
+    chip.write(ENABLE_HIGH, ALL)?;
     chip.write(4 * u32::from(source), 1)?;
     Ok(chip)
 }
@@ -169,6 +172,71 @@ fn every_source_has_its_own_priority_and_enable_bit(rt: HostRuntime) -> Result<(
     for source in 1..64 {
         check_only_claim(&rt, one_with_priority(source)?, source, "priority");
         check_only_claim(&rt, one_enabled(source)?, source, "enable bit");
+    }
+    Ok(())
+}
+
+#[test]
+fn a_request_is_printed(rt: HostRuntime) -> Result<(), Fail> {
+    let mut chip = Plic::<64>::new();
+    let idle = chip.gateway(5).request;
+    chip.rise(5)?;
+    let pending = chip.gateway(5).request;
+    let printed = format!(in rt.alloc(); "{idle} {pending} {}", Request::Claimed)?;
+    assert_eq!(rt; printed.as_str(), "IDLE PENDING CLAIMED");
+    Ok(())
+}
+
+// A number of a PLIC with 64, and its gateway record.
+struct Held(u16, Gateway);
+
+const BLANK: Gateway = Gateway {
+    request: Request::Idle,
+    high: false,
+    enabled: false,
+    priority: 0,
+};
+
+const HELD: [Held; 7] = [
+    Held(0, BLANK),
+    Held(
+        5,
+        Gateway {
+            request: Request::Pending,
+            high: true,
+            enabled: true,
+            priority: 3,
+        },
+    ),
+    Held(
+        9,
+        Gateway {
+            request: Request::Claimed,
+            high: false,
+            enabled: true,
+            priority: 7,
+        },
+    ),
+    Held(63, BLANK),
+    // past the last
+    Held(64, BLANK),
+    Held(1024, BLANK),
+    Held(65535, BLANK),
+];
+
+// Source 9 was claimed and fell; source 5 is pending.
+#[test]
+fn gateways_are_shown(rt: HostRuntime) -> Result<(), Fail> {
+    let mut chip = Plic::<64>::new();
+    chip.write(ENABLE, ALL)?;
+    chip.write(PRIORITY_5, 3)?;
+    chip.write(PRIORITY_9, 7)?;
+    chip.rise(5)?;
+    chip.rise(9)?;
+    assert_eq!(rt; chip.read(CLAIM_COMPLETE), Ok(9));
+    chip.fall(9)?;
+    for &Held(n, gateway) in &HELD {
+        assert_eq!(rt; chip.gateway(n), gateway, "{n}");
     }
     Ok(())
 }

@@ -1,19 +1,21 @@
-// A script of calls on a bare chip, with the answers that its rules give.
+// A script of calls on a bare chip, with the replies that its rules give.
 use controller::Refusal;
+use std::fmt::Debug;
 use std::process::Abort;
 
 // What a call tells that was carried out.
 #[derive(Clone, Copy, PartialEq, Eq, Debug)]
-pub(crate) enum Reply {
+pub(crate) enum Told {
     Done,
     Value(u32),
     Signals(bool),
 }
 
-pub(crate) type Answer = Result<Reply, Refusal>;
+// What a call brought back.
+pub(crate) type Reply = Result<Told, Refusal>;
 
-// A call and its answer.
-pub(crate) struct Step<C>(pub C, pub Answer);
+// A call and its reply.
+pub(crate) struct Step<C>(pub C, pub Reply);
 
 // The steps from a new chip on.
 pub(crate) struct Script<'a, C> {
@@ -21,14 +23,20 @@ pub(crate) struct Script<'a, C> {
     pub steps: &'a [Step<C>],
 }
 
-pub(crate) fn run<C: Copy, F: FnMut(C) -> Answer>(
+// As `Step` and `run` of pile_tests, not shared: what asserts takes an `Abort`, and no library function here may have that bound.
+pub(crate) fn run<C: Copy + Debug, F: FnMut(C) -> Reply>(
     rt: &impl Abort,
     script: &Script<C>,
-    mut answer: F,
+    mut ask: F,
 )
-    requires { F.IsAlwaysCallable answer }
+    requires { F.IsAlwaysCallable ask }
 {
-    for (place, Step(call, expected)) in script.steps.iter().enumerate() {
-        assert_eq!(rt; answer(*call), *expected, "{}: step {place}", script.shows);
+    for (place, &Step(call, expected)) in script.steps.iter().enumerate() {
+        assert_eq!(rt;
+            ask(call),
+            expected,
+            "{}: step {place}, {call:?}",
+            script.shows
+        );
     }
 }

@@ -1,6 +1,7 @@
 // The arbitration tree against a plain scan, at several sizes and fillings of the leaves.
 use arbiter::{Key, Level, Priority, winner};
 use std::alloc::{AllocError, Global};
+use std::fmt::Debug;
 use std::iter::successors;
 use std::process::Abort;
 use std::test::Fail;
@@ -22,23 +23,9 @@ const FILLINGS: [Filling; 9] = [
     Filling(9, 16, 0xff),
 ];
 
-// A step of a linear congruential generator, the one of dispatch_tests: crates of tests share no library.
+// A step of a linear congruential generator, as in dispatch_tests: shared, it would be a public call with a contract, no plainer.
 fn next(state: u32) -> u32 {
     state.wrapping_mul(1_664_525).wrapping_add(1_013_904_223)
-}
-
-// The leaf that a state of the generator stands for.
-fn leaf(state: u32, filled: u8, bits: u8) -> Option<u8> {
-    let [_, _, choice, key] = state.to_le_bytes();
-    (choice % 16 < filled).then_some(key & bits)
-}
-
-fn leaves(heap: Global, size: usize, filling: &Filling) -> Result<Vec<Option<u8>>, AllocError> {
-    let &Filling(seed, filled, bits) = filling;
-    successors(Some(next(seed)), |state| Some(next(*state)))
-        .take(size)
-        .map(|state| leaf(state, filled, bits))
-        .collect(heap)
 }
 
 // The first leaf whose key no other comes before, by a scan that keeps the best so far.
@@ -68,31 +55,53 @@ fn by_tree<K: Key + Copy, F: Fn(u8) -> K>(
     Ok(winner(&keys))
 }
 
-fn check_filling(
-    rt: &impl Abort,
-    heap: Global,
-    size: usize,
-    filling: &Filling,
-) -> Result<(), Fail> {
-    let leaves = leaves(heap, size, filling)?;
-    assert_eq!(rt;
-        by_tree(heap, &leaves, Level)?,
-        scan(&leaves, |key, other| key < other),
-        "{size} leaves from {}",
-        filling.0
-    );
-    assert_eq!(rt;
-        by_tree(heap, &leaves, Priority)?,
-        scan(&leaves, |key, other| key > other),
-        "{size} leaves from {}",
-        filling.0
-    );
-    Ok(())
+impl Filling {
+    // The leaf that a state of the generator stands for.
+    fn leaf(&self, state: u32) -> Option<u8> {
+        let &Filling(_, filled, bits) = self;
+        let [_, _, choice, key] = state.to_le_bytes();
+        (choice % 16 < filled).then_some(key & bits)
+    }
+
+    fn leaves(&self, heap: Global, size: usize) -> Result<Vec<Option<u8>>, AllocError> {
+        successors(Some(next(self.0)), |state| Some(next(*state)))
+            .take(size)
+            .map(|state| self.leaf(state))
+            .collect(heap)
+    }
+
+    // The tree finds what a scan finds, with the keys of one kind in their order.
+    fn check_keys<K: Key + Copy + Debug, F: Fn(u8) -> K, B: Fn(u8, u8) -> bool>(
+        &self,
+        rt: &impl Abort,
+        heap: Global,
+        size: usize,
+        key: F,
+        before: B,
+    ) -> Result<(), Fail>
+        requires keyed { F.IsAlwaysCallable key }
+        requires ordered { B.IsAlwaysCallable before }
+    {
+        let leaves = self.leaves(heap, size)?;
+        assert_eq!(rt;
+            by_tree(heap, &leaves, &key)?,
+            scan(&leaves, before),
+            "{size} leaves from {}, keys like {:?}",
+            self.0,
+            key(0)
+        );
+        Ok(())
+    }
+
+    fn check(&self, rt: &impl Abort, heap: Global, size: usize) -> Result<(), Fail> {
+        self.check_keys(rt, heap, size, Level, |key, other| key < other)?;
+        self.check_keys(rt, heap, size, Priority, |key, other| key > other)
+    }
 }
 
 fn check_size(rt: &impl Abort, heap: Global, size: usize) -> Result<(), Fail> {
     for filling in &FILLINGS {
-        check_filling(rt, heap, size, filling)?;
+        filling.check(rt, heap, size)?;
     }
     Ok(())
 }
@@ -103,4 +112,28 @@ fn the_tree_finds_what_a_scan_finds(rt: HostRuntime) -> Result<(), Fail> {
         check_size(&rt, rt.alloc(), size)?;
     }
     Ok(())
+}
+
+// Two keys, and whether the first leads the other as a level and as a priority.
+struct Pair(u8, u8, bool, bool);
+
+const PAIRS: [Pair; 6] = [
+    Pair(0, 0, true, true),
+    Pair(3, 5, true, false),
+    Pair(5, 3, false, true),
+    Pair(0, 255, true, false),
+    Pair(255, 254, false, true),
+    Pair(255, 255, true, true),
+];
+
+#[test]
+fn a_lower_level_and_a_greater_priority_lead(rt: HostRuntime) {
+    for &Pair(one, other, level, priority) in &PAIRS {
+        assert_eq!(rt; Level(one).leads(Level(other)), level, "{one}, {other}");
+        assert_eq!(rt;
+            Priority(one).leads(Priority(other)),
+            priority,
+            "{one}, {other}"
+        );
+    }
 }

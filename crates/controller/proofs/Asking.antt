@@ -21,6 +21,11 @@ pub asks-yes : (P Q : Type 0) (x : Bool) → x ≡ true → Asks x P Q → P
 asks-yes P Q x e (so e' p) = p
 asks-yes P Q x e (otherwise e' q) = absurd (both_ways x e' e)
 
+-- And of one that is answered no.
+pub asks-no : (P Q : Type 0) (x : Bool) → x ≡ false → Asks x P Q → Q
+asks-no P Q x e (so e' p) = absurd (both_ways x e e')
+asks-no P Q x e (otherwise e' q) = q
+
 -- F takes the meaning of a part to that of the whole; a call that is carried out, or refused, in the part is so in the whole.
 pub gives-map : (F : Meaning → Meaning) (m : Meaning) {x x' : Answer} {s s' : State} {m' : Meaning} {r : Result Answer Refusal} → x' ≡ x → F (onward m s) ≡ onward (F m) s' → Gives x s m r m' → Gives x' s' (F m) r (F m')
 gives-map F m e f g = (g.0 ∙ ap Ok (sym e), ap F g.1 ∙ f)

@@ -1,18 +1,10 @@
 -- Each state that a call leaves is lawful if the state before was.
 use Rattle.std.proofs.Common.{◌≡◌, ℕ, Bool, true, false, cond, not, ◌&&◌, ◌||◌, eqb, ◌≢◌, ◌∷◌, sym, refl, ap, ◌∙◌, subst, ⊎_elim}
-use Rattle.std.proofs.lemmas.Bool.{cases_eq, or_cases, or_parts, both_ways, eqb-true, eq-eqb, ne_eqb, false≢true, true≢false, cond-true, cond-false}
+use Rattle.std.proofs.lemmas.Bool.{or_cases, or_parts, both_ways, eqb-true, eq-eqb, ne_eqb, false≢true, true≢false, cond-false}
 use Rattle.controller.specs.Meaning.{Fixed, State, StateLaws, Ready, in_service, among}
 use Rattle.controller.specs.Rules.{marked, risen, fallen, opening, taken, finished, older, tops}
-use Rattle.controller.proofs.Marks.{marked-here, marked_other}
+use Rattle.controller.proofs.Marks.{at_mark, marked-here, marked_other}
 use Rattle.controller.proofs.Stacks.{among-older, climbs-older}
-
--- A fact of the mark at j, from the fact at n and the fact elsewhere.
-at_mark : (P : Bool → Type 0) (f : ℕ → Bool) (n j : ℕ) (b : Bool) → (j ≡ n → P b) → (j ≢ n → P (f j)) → P (marked f n b j)
-at_mark P f n j b here there =
-    ⊎_elim
-    (λ e. subst P (sym (cond-true (eqb j n) b (f j) (eq-eqb j n e))) (here e))
-    (λ ne. subst P (sym (cond-false (eqb j n) b (f j) (ne_eqb j n ne))) (there ne))
-    (cases_eq j n)
 
 -- What is marked high after a rise, and what is marked low after a fall.
 raised-else : (f : ℕ → Bool) (n j : ℕ) → marked f n true j ≡ false → j ≢ n
@@ -128,7 +120,4 @@ module _ (f : Fixed) (s : State) (n : ℕ) (h : StateLaws f s) where
       still : (j : ℕ) → among j (older s.stack) ≡ true → (j ≢ n) × (among j s.stack ≡ true)
       still j on =
           let rest : cond (eqb j n) false (among j s.stack) ≡ true = sym (among-older f n s.stack h.climbs top j) ∙ on in
-          ⊎_elim
-          (λ e. absurd (both_ways _ (cond-true (eqb j n) false (among j s.stack) (eq-eqb j n e)) rest))
-          (λ ne. (ne, sym (cond-false (eqb j n) false (among j s.stack) (ne_eqb j n ne)) ∙ rest))
-          (cases_eq j n)
+          at_mark (λ b. b ≡ true → (j ≢ n) × (among j s.stack ≡ true)) (λ k. among k s.stack) n j false (λ _ bad. absurd (false≢true bad)) (λ ne there. (ne, there)) rest

@@ -1,5 +1,5 @@
 -- A refused call changes nothing.
-use Rattle.std.proofs.Common.{◌≡◌, ℕ, Ok, Err, Result, arith}
+use Rattle.std.proofs.Common.{◌≡◌, ℕ, Err, Result}
 use Rattle.controller.specs.declared.refusal.Refusal.{Refusal}
 use Rattle.controller.specs.declared.answer.Answer.{Answer}
 use Rattle.controller.specs.Meaning.{Meaning}
@@ -12,27 +12,24 @@ Rule = Meaning → ℕ → Result Answer Refusal → Meaning → Type 0
 abbrev pub RefusedSame : Rule → Type 0
 RefusedSame Q = (m : Meaning) (n : ℕ) (e : Refusal) (m' : Meaning) → Q m n (Err e) m' → m' ≡ m
 
-err-ok : {e : Refusal} {x : Answer} → ◌≡◌ {A = Result Answer Refusal} (Err e) (Ok x) → ⊥
-err-ok same = let z : ◌≡◌ {A = ℕ} 0 1 = cc in absurd (omega arith)
-
 pub rises-same : RefusedSame Rises
-rises-same m n e m' (so _ g) = absurd (err-ok g.0)
+rises-same m n e m' (so _ g) = cc
 rises-same m n e m' (otherwise _ g) = g.1
 
 pub falls-same : RefusedSame Falls
-falls-same m n e m' (so _ g) = absurd (err-ok g.0)
+falls-same m n e m' (so _ g) = cc
 falls-same m n e m' (otherwise _ g) = g.1
 
 pub opens-same : RefusedSame Opens
-opens-same m n e m' (so _ g) = absurd (err-ok g.0)
+opens-same m n e m' (so _ g) = cc
 opens-same m n e m' (otherwise _ g) = g.1
 
 pub shuts-same : RefusedSame Shuts
 shuts-same m n e m' (so _ (so _ g)) = g.1
-shuts-same m n e m' (so _ (otherwise _ g)) = absurd (err-ok g.0)
+shuts-same m n e m' (so _ (otherwise _ g)) = cc
 shuts-same m n e m' (otherwise _ g) = g.1
 
 pub finishes-same : RefusedSame Finishes
-finishes-same m n e m' (so _ (so _ g)) = absurd (err-ok g.0)
+finishes-same m n e m' (so _ (so _ g)) = cc
 finishes-same m n e m' (so _ (otherwise _ g)) = g.1
 finishes-same m n e m' (otherwise _ g) = g.1

@@ -1,10 +1,10 @@
 -- The laws of the rules.
-use Rattle.std.proofs.Common.{◌≡◌, ℕ, Bool, true, false, not, ◌&&◌, ◌||◌, ◌⊎◌, List, [], ◌∷◌, Some, None, sym, refl, ap, ◌∙◌, subst, inl, inr, ⊎_elim}
-use Rattle.std.proofs.lemmas.Bool.{cases_eq, both_ways, false≢true, true≢false}
+use Rattle.std.proofs.Common.{◌≡◌, ℕ, Bool, true, false, not, ◌&&◌, ◌||◌, ◌⊎◌, List, [], ◌∷◌, Some, None, sym, refl, ap, ◌∙◌, subst, inl, inr}
+use Rattle.std.proofs.lemmas.Bool.{both_ways, false≢true, true≢false}
 use Rattle.controller.specs.Meaning.{State, Meaning, Lawful, StateLaws}
 use Rattle.controller.specs.Rules.{so, otherwise, marked, idle, risen, fallen, opening, taken, finished, onward, older, tops}
 use Rattle.controller.specs.Laws.{Called, rises, falls, opens, shuts, takes, finishes, Ran, none, more, Releases, RuleLaws}
-use Rattle.controller.proofs.Marks.{marked-here, marked_other}
+use Rattle.controller.proofs.Marks.{at_mark}
 use Rattle.controller.proofs.Stacks.{tops-among}
 use Rattle.controller.proofs.Keeping.{risen-lawful, fallen-lawful, opened-lawful, shut-lawful, taken-lawful, finished-lawful}
 
@@ -64,10 +64,7 @@ stays m m' j P e on off = absurd (both_ways _ off (ap (λ (x : Meaning). x.state
 left_at : (m m' : Meaning) (s : State) (n j : ℕ) (b : Bool) → m' ≡ onward m s → s.waiting ≡ marked m.state.waiting n b → m.state.waiting j ≡ true → m'.state.waiting j ≡ false → (j ≡ n) × (b ≡ false)
 left_at m m' s n j b e w on off =
     let after : marked m.state.waiting n b j ≡ false = sym (ap (λ (f : ℕ → Bool). f j) w) ∙ sym (ap (λ (x : Meaning). x.state.waiting j) e) ∙ off in
-    ⊎_elim
-    (λ same. (same, sym (marked-here m.state.waiting n b) ∙ ap (marked m.state.waiting n b) (sym same) ∙ after))
-    (λ ne. absurd (both_ways _ (sym (marked_other m.state.waiting n j b ne) ∙ after) on))
-    (cases_eq j n)
+    at_mark (λ x. x ≡ false → (j ≡ n) × (b ≡ false)) m.state.waiting n j b (λ same here. (same, here)) (λ ne there. absurd (both_ways _ there on)) after
 
 keeps-waiting : (w t : Bool) → w ≡ true → (w || t) ≡ false → ⊥
 keeps-waiting true t e f = true≢false f

@@ -1,8 +1,9 @@
 -- Stacks: lists of lines that climb in class.
 use Rattle.std.proofs.Common.{◌≡◌, ℕ, ◌+◌, ◌<◌, ◌≤◌, Bool, true, false, cond, ◌&&◌, ◌||◌, eqb, ltb, ◌≢◌, List, [], ◌∷◌, length, Some, sym, refl, ap, ◌∙◌, subst, ap₂, ⊎_elim, arith}
-use Rattle.std.proofs.lemmas.Bool.{eq-eqb, ne_eqb, eqb-true, cases_eq, or_cases, or_left, or_right, and_parts, ltb-true, cases_Bool, false≢true}
+use Rattle.std.proofs.lemmas.Bool.{eq-eqb, ne_eqb, eqb-true, cases_eq, or_cases, or_left, or_right, and_parts, ltb-true, false_from_ne_true, false≢true}
 use Rattle.controller.specs.Meaning.{Fixed, Meaning, Lawful, class_count, among, Beats, Climbs}
 use Rattle.controller.specs.Rules.{newest, older, tops}
+use Rattle.controller.proofs.Marks.{at_mark}
 
 pub among-head : (x : ℕ) (xs : List ℕ) → among x (x ∷ xs) ≡ true
 among-head x xs = or_left (eqb x x) (among x xs) (eq-eqb x x refl)
@@ -23,7 +24,7 @@ beats-all f (x ∷ xs) n y up beats sure =
 
 pub beats-none : (f : Fixed) (xs : List ℕ) (n : ℕ) → Climbs f xs → Beats f n xs → among n xs ≡ false
 beats-none f xs n up beats =
-    ⊎_elim (λ sure. let lt : f.class n < f.class n = beats-all f xs n n up beats sure in absurd (omega arith)) (λ nay. nay) (cases_Bool (among n xs))
+    false_from_ne_true (among n xs) (λ sure. let lt : f.class n < f.class n = beats-all f xs n n up beats sure in omega arith)
 
 -- No line of the stack is of smaller class than the newest.
 pub none-smaller : (f : Fixed) (xs : List ℕ) (n j : ℕ) → Climbs f xs → tops xs n ≡ true → among j xs ≡ true → f.class j < f.class n → ⊥
@@ -52,12 +53,9 @@ climbs-older f (x ∷ xs) up = up.1
 pub among-older : (f : Fixed) (n : ℕ) (xs : List ℕ) → Climbs f xs → tops xs n ≡ true → (j : ℕ) → among j (older xs) ≡ cond (eqb j n) false (among j xs)
 among-older f n [] up top j = absurd (false≢true top)
 among-older f n (x ∷ xs) up top j =
-    ⊎_elim
-    (λ ej. let ex : j ≡ x = ej ∙ eqb-true n x top in
-    ap (λ k. among k xs) ex ∙ beats-none f xs x up.1 up.0 ∙ sym (ap (λ b. cond b false (among j (x ∷ xs))) (eq-eqb j n ej)))
-    (λ ne. let ne' : eqb j x ≡ false = ne_eqb j x (λ ex. ne (ex ∙ sym (eqb-true n x top))) in
-    sym (ap (λ b. cond b false (among j (x ∷ xs))) (ne_eqb j n ne) ∙ ap (λ b. b || among j xs) ne'))
-    (cases_eq j n)
+    at_mark (λ b. among j xs ≡ b) (λ k. among k (x ∷ xs)) n j false
+    (λ e. ap (λ k. among k xs) (e ∙ eqb-true n x top) ∙ beats-none f xs x up.1 up.0)
+    (λ ne. sym (ap (λ b. b || among j xs) (ne_eqb j x (λ e. ne (e ∙ sym (eqb-true n x top))))))
 
 -- A stack is known by its lines: two that climb and have the same lines are the same.
 pub one-order : (f : Fixed) (xs ys : List ℕ) → Climbs f xs → Climbs f ys → ((n : ℕ) → among n xs ≡ among n ys) → xs ≡ ys
@@ -99,7 +97,7 @@ pub below-tail : (w x : ℕ) (xs : List ℕ) → Below w (x ∷ xs) → Below w 
 below-tail w x xs h y sure = h y (or_right (eqb y x) (among y xs) sure)
 
 pub below-not : (w : ℕ) (xs : List ℕ) (n : ℕ) → Below w xs → w ≤ n → among n xs ≡ false
-below-not w xs n h le = ⊎_elim (λ sure. let lt : n < w = h n sure in absurd (omega arith)) (λ nay. nay) (cases_Bool (among n xs))
+below-not w xs n h le = false_from_ne_true (among n xs) (λ sure. let lt : n < w = h n sure in omega arith)
 
 -- So it is in every lawful state, at the controller's width.
 pub served-below : (m : Meaning) → Lawful m → Below m.fixed.width m.state.stack
@@ -120,7 +118,7 @@ older-out f k (x ∷ xs) up top = ap (λ j. among j xs) (eqb-true k x top) ∙ b
 
 -- What is told to be the newest line.
 pub newest-tops : (xs : List ℕ) (n : ℕ) → Some n ≡ newest xs → tops xs n ≡ true
-newest-tops [] n e = let z : ◌≡◌ {A = ℕ} 0 1 = cc in absurd (omega arith)
+newest-tops [] n e = cc
 newest-tops (x ∷ xs) n e = let same : n ≡ x = cc in eq-eqb n x same
 
 -- A list of numbers that are all below w, as computed.

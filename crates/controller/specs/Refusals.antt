@@ -1,5 +1,5 @@
 -- The refusals: the number of each, the words it is printed in, and how a call asks its questions.
-use Rattle.std.specs.Prelude.{ℕ, Bool, true, false, List, Err, codes, Result}
+use Rattle.std.specs.Prelude.{ℕ, Bool, true, false, List, Err, ◌++◌, codes, decimal, Result}
 use Rattle.controller.specs.declared.refusal.Refusal.{Refusal}
 use Rattle.controller.specs.declared.refusal.Refusal.TheVariants.{NotALine, InService, NotNewest, NotHeld, NotParked, UnlawfulMap, CutRecord, NoSpace, NotSetUp, NotModelled, NoSuchAddress, NotAFleetingLine, PartInService, TooLarge}
 
@@ -36,6 +36,10 @@ phrase NoSuchAddress = codes "no such port or offset"
 phrase NotAFleetingLine = codes "no such fleeting line of the outer controller"
 phrase PartInService = codes "a part has a line in service"
 phrase TooLarge = codes "the parts are too large together"
+
+-- What is printed of a refusal where its number is wanted too.
+abbrev pub numbered_phrase : Refusal → List ℕ
+numbered_phrase r = codes "refused (" ++ decimal (number r) ++ codes "), " ++ phrase r
 
 -- A question put to a call: if its answer is no, the refusal is e; otherwise the next question decides.
 abbrev pub asks : {A : Type 0} → Bool → Refusal → Result A Refusal → Result A Refusal

@@ -6,5 +6,5 @@ mod refusal;
 mod telling;
 
 pub use answer::Answer;
-pub use refusal::Refusal;
+pub use refusal::{Numbered, Refusal};
 pub use telling::Controller;

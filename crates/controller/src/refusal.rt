@@ -1,8 +1,9 @@
 // Why a call was not carried out. Each call asks its questions in a fixed order; the first that is answered no is the
 // refusal, and a refused call changes nothing.
 ghost use Rattle.std.specs.Prelude.{◌≡◌, Some};
-ghost use Rattle.controller.specs.Refusals.{number, phrase};
+ghost use Rattle.controller.specs.Refusals.{number, phrase, numbered_phrase};
 
+use std::error::Error;
 use std::fmt;
 
 #[derive(Clone, Copy, PartialEq, Eq, Debug)]
@@ -59,5 +60,21 @@ impl fmt::Display for Refusal {
 
     fn fmt<W: fmt::Write>(&self, f: &mut fmt::Formatter<W>) -> fmt::Result {
         f.write_str(self.text())
+    }
+}
+
+impl Error for Refusal {}
+
+// A refusal as reports have it: its number, and what was refused.
+#[derive(Clone, Copy, PartialEq, Eq, Debug)]
+pub struct Numbered(pub Refusal);
+
+impl fmt::Display for Numbered {
+    ghost output = { λ n. Some (numbered_phrase n.0) };
+
+    fn fmt<W: fmt::Write>(&self, f: &mut fmt::Formatter<W>) -> fmt::Result {
+        let Numbered(why) = *self;
+        let number = why.number();
+        write!(f, "refused ({number}), {why}")
     }
 }

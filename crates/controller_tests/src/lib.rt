@@ -1,4 +1,4 @@
-// The same list of calls over both controllers, with the answers that the rules give each.
+// What both controllers tell of themselves, and the same list of calls over both, with the answers that the rules give each.
 #![tactic(auto)]
 
 #[cfg(test)]

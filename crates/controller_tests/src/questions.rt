@@ -2,6 +2,7 @@
 use controller::Controller;
 use i8259a_controller::I8259aController;
 use plic_controller::PlicController;
+use std::array;
 use std::process::Abort;
 
 // Which numbers up to a little past the width are lines, and which of them fleeting.
@@ -24,13 +25,14 @@ fn the_8259a_has_eight_fleeting_lines(rt: HostRuntime) {
 // The low three bits of each priority count, and entry 0 is ignored.
 #[test]
 fn the_plic_has_its_prioritized_sources(rt: HostRuntime) {
-    let mut priorities = [0; 64];
-    priorities[0] = 7;
-    priorities[1] = 1;
-    priorities[2] = 8;
-    priorities[9] = 255;
-    priorities[63] = 12;
-    let unit = PlicController::new(priorities);
+    let unit = PlicController::new(array::from_fn(|n| match n {
+        0 => 7,
+        1 => 1,
+        2 => 8,
+        9 => 255,
+        63 => 12,
+        _ => 0,
+    }));
     assert_eq!(rt; unit.width(), 64);
     assert_eq!(rt; unit.span(), 512);
     check_lines(&rt, &unit, &[1, 9, 63], false);

@@ -5,6 +5,7 @@ use crate::script::{Call, Reply, ask};
 use controller::{Answer, Refusal};
 use i8259a_controller::I8259aController;
 use plic_controller::PlicController;
+use std::array;
 
 const ACCEPTED: Reply = Answered(Ok(Answer::Accepted));
 
@@ -93,11 +94,13 @@ const ROWS: [Row; 56] = [
 
 // Source n has priority 8 - n, so that the lines 1 to 7 are in the same order on both.
 fn priorities() -> [u8; 64] {
-    let mut priorities = [0; 64];
-    priorities[1..8].copy_from_slice(&[7, 6, 5, 4, 3, 2, 1]);
-    priorities
+    array::from_fn(|n| match n {
+        1..=7 => 8 - n as u8,
+        _ => 0,
+    })
 }
 
+// The loop of `run` in pile_tests, not shared: what asserts takes an `Abort`, and no library function here may have that bound.
 #[test]
 fn both_answer_by_the_rules(rt: HostRuntime) {
     let mut old = I8259aController::new();

@@ -1,6 +1,5 @@
 // A call on any controller, and what it brings back.
-// pile_tests has the like: what makes the call would have to be a public function of a library, with a contract of its own,
-// and the two types without it are no more than its words.
+// pile_tests has the like: `ask` in a library would be public, with a contract of its own, which is no plainer.
 use controller::{Answer, Controller, Refusal};
 
 // Data and no closure, since a row of a script is a constant, and a test that fails prints its call.
@@ -16,7 +15,7 @@ pub(crate) enum Call {
     Signal,
 }
 
-// What a call brought back, by the type of its result.
+// What a call brought back: a yes or no, a line or none, or an answer.
 #[derive(Clone, Copy, PartialEq, Eq, Debug)]
 pub(crate) enum Reply {
     Said(bool),

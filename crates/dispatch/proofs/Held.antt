@@ -1,34 +1,17 @@
 -- What stays HELD in a nest, and what a take starts.
-use Rattle.std.proofs.Common.{◌≡◌, ℕ, true, false, ◌&&◌, ◌||◌, eqb, List, [], ◌∷◌, Some, None, Option, sym, refl, ap, ◌∙◌, ⊎_elim}
-use Rattle.std.proofs.lemmas.Bool.{cond-false, false≢true, both_ways, eqb-true, ne_eqb, or_left, or_right, or_cases, and_parts, and_from, and_right}
+use Rattle.std.proofs.Common.{◌≡◌, ℕ, true, false, ◌&&◌, eqb, List, [], ◌∷◌, Some, None, Option, sym, ap, ◌∙◌, ⊎_elim}
+use Rattle.std.proofs.lemmas.Bool.{cond-false, false≢true, both_ways, eqb-true, ne_eqb, or_left, or_right, or_cases, and_parts, and_from}
 use Rattle.controller.specs.Meaning.{Meaning, Lawful, among}
 use Rattle.controller.specs.Rules.{Takes}
 use Rattle.service.specs.declared.entry.Entry.{Entry}
-use Rattle.service.specs.declared.entry.Mark.{Mark}
-use Rattle.service.specs.declared.entry.Mark.TheVariants.{Held, Parked}
-use Rattle.service.specs.Nests.{held, is_held, is_parked, newest_is, newest_parked, parked, parked_entry, removed}
+use Rattle.service.specs.declared.entry.Mark.TheVariants.{Parked}
+use Rattle.service.specs.Nests.{held, is_held, parked, parked_entry}
 use Rattle.dispatch.specs.Tables.{atop}
 use Rattle.dispatch.specs.Claims.{StayHeld, OthersStayHeld, TakesAnother}
 
--- With one entry more, with the newest removed, and with one line parked.
+-- With one entry more, and with one line parked.
 pub held-push : (e : Entry) (es : List Entry) → StayHeld es (e ∷ es)
 held-push e es n h = or_right (eqb n e.line && is_held e.mark) (held n es) h
-
-pub held-pop : (m : ℕ) (es : List Entry) → newest_is m es ≡ true → OthersStayHeld m es (removed es)
-held-pop m [] top n ne h = h
-held-pop m (x ∷ xs) top n ne h =
-    let off : eqb n x.line ≡ false = ne_eqb n x.line (λ e. ne (e ∙ sym (eqb-true m x.line top))) in
-    sym (ap (λ b. (b && is_held x.mark) || held n xs) off) ∙ h
-
-pub held-pop-parked : (es : List Entry) → newest_parked es ≡ true → StayHeld es (removed es)
-held-pop-parked [] up n h = h
-held-pop-parked (x ∷ xs) up n h =
-    let off : (eqb n x.line && is_held x.mark) ≡ false = and_right (eqb n x.line) (is_held x.mark) (not-both x.mark up) in
-    sym (ap (λ b. b || held n xs) off) ∙ h
-  where
-    not-both : (k : Mark) → is_parked k ≡ true → is_held k ≡ false
-    not-both Held p = absurd (false≢true p)
-    not-both Parked p = refl
 
 pub held-parked : (m : ℕ) (es : List Entry) → OthersStayHeld m es (parked m es)
 held-parked m [] n ne h = h

@@ -1,14 +1,12 @@
 -- A nest's table, read backward.
-use Rattle.std.proofs.Common.{◌≡◌, ℕ, zero, suc, ◌+◌, ◌-◌, ◌<◌, ◌≤◌, Bool, true, ◌&&◌, ◌||◌, eqb, ltb, ◌≢◌, List, [], ◌∷◌, length, get_or, set, take, sym, refl, ap, ◌∙◌, subst, ap₂, add-one, arith, get_or-set_other, get_or-set_same}
-use Rattle.std.proofs.lemmas.Bool.{cond_both, ltb-false, ltb-true, false≢true}
+use Rattle.std.proofs.Common.{◌≡◌, ℕ, zero, suc, ◌+◌, ◌<◌, ◌≤◌, Bool, ◌&&◌, ◌||◌, eqb, ◌≢◌, List, [], ◌∷◌, length, get_or, set, take, sym, refl, ap, ◌∙◌, ap₂, add-one, arith, get_or-set_other, get_or-set_same}
 use Rattle.std.proofs.Math.Bool.{or_comm}
 use Rattle.std.proofs.lemmas.List.Folds.{list_any_more}
 use Rattle.std.specs.List.{list_any}
 use Rattle.service.specs.declared.entry.Mark.{Mark}
-use Rattle.controller.specs.Rules.{older}
 use Rattle.service.specs.declared.entry.Entry.{Entry}
 use Rattle.service.specs.declared.entry.Mark.TheVariants.{Held}
-use Rattle.service.specs.Nests.{most_depth, entry, held, is_held, newest_is, parked, parked_entry, removed}
+use Rattle.service.specs.Nests.{most_depth, entry, held, is_held, parked, parked_entry}
 use Rattle.dispatch.specs.Tables.{backward, within, atop}
 
 pub length-backward : (xs : List Entry) (k : ℕ) → length (backward xs k) ≡ k
@@ -17,10 +15,6 @@ length-backward xs (suc k) = ap suc (length-backward xs k)
 
 backward-more : (xs : List Entry) (k : ℕ) → backward xs (k + 1) ≡ get_or xs k (entry 0 Held) ∷ backward xs k
 backward-more xs k = rw add-one refl
-
-backward-less : (xs : List Entry) (k : ℕ) → 0 < k → backward xs k ≡ get_or xs (k - 1) (entry 0 Held) ∷ backward xs (k - 1)
-backward-less xs zero h = let z : ⊥ = omega arith in absurd z
-backward-less xs (suc k) h = let e : suc k - 1 ≡ k = omega arith in subst (λ j. backward xs (suc k) ≡ get_or xs j (entry 0 Held) ∷ backward xs j) (sym e) refl
 
 backward-set : (xs : List Entry) (i : ℕ) (e : Entry) (k : ℕ) → k ≤ i → backward (set xs i e) k ≡ backward xs k
 backward-set xs i e zero h = refl
@@ -32,16 +26,13 @@ backward-push : (xs : List Entry) (i : ℕ) (e : Entry) → i < length xs → ba
 backward-push xs i e h = backward-more (set xs i e) i ∙ ap₂ ◌∷◌ (rw get_or-set_same refl) (backward-set xs i e i (omega arith))
 
 pub within-few : (k : ℕ) → k ≤ most_depth → within k ≡ k
-within-few k h = cond_both (ltb k most_depth) k most_depth (λ j. j ≡ k) (λ _. refl) (λ e. let le : most_depth ≤ k = ltb-false k most_depth e in omega arith)
+within-few k h = grind arith
 
 pub within-most : (k : ℕ) → within k ≤ most_depth
-within-most k = cond_both (ltb k most_depth) k most_depth (λ j. j ≤ most_depth) (λ e. let lt : k < most_depth = ltb-true k most_depth e in omega arith) (λ _. omega arith)
+within-most k = grind arith
 
--- A nest without its newest entry, and a nest with one more; k is the depth d within the table.
+-- A nest with one entry more; k is the depth d within the table.
 module _ (xs : List Entry) (d k : ℕ) (depth : k ≡ within d) where
-  pub pop-at : 0 < k → k ≤ most_depth → backward xs (within (k - 1)) ≡ removed (backward xs (within d))
-  pop-at h few = ap (backward xs) (within-few (k - 1) (omega arith)) ∙ sym (ap removed (ap (backward xs) (sym depth) ∙ backward-less xs k h))
-
   pub push_at : (e : Entry) → k < most_depth → k < length xs → backward (set xs k e) (within (k + 1)) ≡ e ∷ backward xs (within d)
   push_at e few h = ap (backward (set xs k e)) (within-few (k + 1) (omega arith)) ∙ backward-push xs k e h ∙ ap (λ j. e ∷ backward xs j) depth
 

@@ -10,9 +10,9 @@ ghost use Rattle.service.specs.Steps.{Ends, depth};
 ghost use Rattle.service.specs.Runs.{Quiet};
 ghost use Rattle.service.specs.Law.{Serves};
 ghost use Rattle.dispatch.specs.Tables.{atop, entries_of};
-ghost use Rattle.dispatch.specs.Snapshots.{snapshot, Sound, Does};
+ghost use Rattle.dispatch.specs.Snapshots.{snapshot, Sound, Does, KeepsClaims};
 ghost use Rattle.dispatch.specs.Replies.{taken_reply, finished_reply, closed_reply, parked_reply};
-ghost use Rattle.dispatch.specs.Claims.{StayHeld, TakeClaims, TakesAnother, StartsAnother, ParkClaims, CloseClaims, EndClaims};
+ghost use Rattle.dispatch.specs.Claims.{TakeClaims, TakesAnother, StartsAnother, ParkClaims, CloseClaims, EndClaims};
 
 use crate::claim::Claim;
 use crate::nest::Nest;
@@ -24,14 +24,6 @@ use service::{Entry, MOST_DEPTH, Mark};
 pub struct Dispatcher<C> {
     controller: C,
     nest: Nest,
-}
-
-// Takes from the controller. Where the nest is the top of its stack, the line that it takes has no entry marked HELD.
-fn next<C: Controller>(controller: &mut C, nest: &Nest) -> Option<u16>
-    ensures takes { Keeps C.Controller.sound (meaning C.Controller) (λ m m'. Takes m result m') controller.old controller.new }
-    ensures another { C.Controller.sound controller.old → (base : List ℕ) → C.Controller.stack controller.old ≡ atop (entries_of nest.now) base → TakesAnother result (entries_of nest.now) }
-{
-    controller.take()
 }
 
 impl<C: Controller> Dispatcher<C> {
@@ -62,12 +54,12 @@ impl<C: Controller> Dispatcher<C> {
         self.nest.newest()
     }
 
-    // Rise, fall, open and shut go to the controller, each by its own name. The three facts stand on every call, since each
-    // is about that call, what it brings back and the states around it; none is about the dispatcher alone.
+    // Rise, fall, open and shut go to the controller, each by its own name. Each call says what it does, that a refusal changes nothing,
+    // and what becomes of the claims that are out: a promise about two states, so no invariant of the dispatcher can hold it.
     pub fn rise(&mut self, n: u16) -> Result<Answer, Refusal>
         ensures does { Does C.Controller (Rise n) (passed_on result) self.old self.new }
         ensures refused { Untouched result self.old self.new }
-        ensures claims { StayHeld (snapshot C.Controller self.old).nest (snapshot C.Controller self.new).nest }
+        ensures claims { KeepsClaims C.Controller self.old self.new }
     {
         self.controller.rise(n)
     }
@@ -75,7 +67,7 @@ impl<C: Controller> Dispatcher<C> {
     pub fn fall(&mut self, n: u16) -> Result<Answer, Refusal>
         ensures does { Does C.Controller (Fall n) (passed_on result) self.old self.new }
         ensures refused { Untouched result self.old self.new }
-        ensures claims { StayHeld (snapshot C.Controller self.old).nest (snapshot C.Controller self.new).nest }
+        ensures claims { KeepsClaims C.Controller self.old self.new }
     {
         self.controller.fall(n)
     }
@@ -83,7 +75,7 @@ impl<C: Controller> Dispatcher<C> {
     pub fn open(&mut self, n: u16) -> Result<Answer, Refusal>
         ensures does { Does C.Controller (Open n) (passed_on result) self.old self.new }
         ensures refused { Untouched result self.old self.new }
-        ensures claims { StayHeld (snapshot C.Controller self.old).nest (snapshot C.Controller self.new).nest }
+        ensures claims { KeepsClaims C.Controller self.old self.new }
     {
         self.controller.open(n)
     }
@@ -91,7 +83,7 @@ impl<C: Controller> Dispatcher<C> {
     pub fn shut(&mut self, n: u16) -> Result<Answer, Refusal>
         ensures does { Does C.Controller (Shut n) (passed_on result) self.old self.new }
         ensures refused { Untouched result self.old self.new }
-        ensures claims { StayHeld (snapshot C.Controller self.old).nest (snapshot C.Controller self.new).nest }
+        ensures claims { KeepsClaims C.Controller self.old self.new }
     {
         self.controller.shut(n)
     }
@@ -107,7 +99,7 @@ impl<C: Controller> Dispatcher<C> {
         if depth == MOST_DEPTH {
             return Taken::Spurious { depth };
         }
-        match next(&mut self.controller, &self.nest) {
+        match self.controller.take() {
             Some(line) => {
                 self.nest.push(Entry {
                     line,
@@ -139,7 +131,8 @@ impl<C: Controller> Dispatcher<C> {
         Ok(())
     }
 
-    // Gives the claim up and ends its line.
+    // Gives the claim up and ends its line. It asks for HELD as park does: a function for that question would hand the claim back in
+    // both cases, and its callers would match them. On the way out the claim is spent, so the last match is no `map_err`.
     pub fn close(&mut self, claim: Claim) -> Result<Ended, Refused>
         ensures does { Does C.Controller (Close claim.line) (closed_reply result) self.old self.new }
         ensures refused { Untouched result self.old self.new }
@@ -170,7 +163,7 @@ impl<C: Controller> Dispatcher<C> {
     pub fn finish(&mut self, n: u16) -> Result<Ended, Refusal>
         ensures does { Does C.Controller (Finish n) (finished_reply result) self.old self.new }
         ensures refused { Untouched result self.old self.new }
-        ensures claims { StayHeld (snapshot C.Controller self.old).nest (snapshot C.Controller self.new).nest }
+        ensures claims { KeepsClaims C.Controller self.old self.new }
     {
         if !self.controller.there(n) {
             return Err(Refusal::NotALine);

@@ -19,12 +19,8 @@ impl Nest {
     pub(crate) fn new() -> Nest
         ensures { entries_of result ≡ [] }
     {
-        let unused = Entry {
-            line: 0,
-            mark: Mark::Held,
-        };
         Nest {
-            entries: [unused; MOST_DEPTH],
+            entries: [Entry::default(); MOST_DEPTH],
             depth: 0,
         }
     }
@@ -92,10 +88,7 @@ impl Nest {
         ensures others { (n : ℕ) → newest_is n (entries_of self.old) ≡ true → OthersStayHeld n (entries_of self.old) (entries_of self.new) }
         ensures parked { newest_parked (entries_of self.old) ≡ true → StayHeld (entries_of self.old) (entries_of self.new) }
     {
-        let depth = self.depth();
-        if depth > 0 {
-            self.depth = depth - 1;
-        }
+        self.depth = self.depth().saturating_sub(1);
     }
 
     pub(crate) fn park(&mut self, line: u16)

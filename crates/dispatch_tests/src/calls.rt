@@ -4,25 +4,26 @@ use controller::{Answer, Controller, Refusal};
 use dispatch::{Dispatcher, Ended};
 use tally::Tally;
 
-// What is said to the controller of one line.
-#[derive(Clone, Copy)]
-pub(crate) enum Turn {
+// A call of one line that the dispatcher passes on to its controller.
+#[derive(Clone, Copy, Debug)]
+pub(crate) enum Passed {
     Rise,
     Fall,
     Open,
     Shut,
 }
 
-// A call, with the line that it is of.
-#[derive(Clone, Copy)]
+// A call of a dispatcher, with its line where it names one. Take is followed at once by what spends its claim, so that a
+// call is plain data.
+#[derive(Clone, Copy, Debug)]
 pub(crate) enum Call {
-    Turn(Turn, u16),
-    Park,
-    Handle,
+    Pass(Passed, u16),
+    TakeAndPark,
+    TakeAndClose,
     Finish(u16),
 }
 
-// What is said of a call, with the same line.
+// What is said of a call, with the line that the call or what it took names.
 #[derive(Clone, Copy, PartialEq, Eq, Debug)]
 pub(crate) enum Said {
     Answer(u16, Result<Answer, Refusal>),
@@ -31,17 +32,17 @@ pub(crate) enum Said {
     End(u16, Result<Ended, Refusal>),
 }
 
-impl Turn {
+impl Passed {
     fn make<C: Controller>(
         self,
         dispatcher: &mut Dispatcher<C>,
         line: u16,
     ) -> Result<Answer, Refusal> {
         match self {
-            Turn::Rise => dispatcher.rise(line),
-            Turn::Fall => dispatcher.fall(line),
-            Turn::Open => dispatcher.open(line),
-            Turn::Shut => dispatcher.shut(line),
+            Passed::Rise => dispatcher.rise(line),
+            Passed::Fall => dispatcher.fall(line),
+            Passed::Open => dispatcher.open(line),
+            Passed::Shut => dispatcher.shut(line),
         }
     }
 }
@@ -49,29 +50,28 @@ impl Turn {
 impl Call {
     pub(crate) fn make<C: Controller>(self, dispatcher: &mut Dispatcher<C>) -> Said {
         match self {
-            Call::Turn(turn, line) => Said::Answer(line, turn.make(dispatcher, line)),
-            Call::Park => Said::Took(take_and_park(dispatcher)),
-            Call::Handle => Said::Served(take_and_close(dispatcher)),
+            Call::Pass(passed, line) => Said::Answer(line, passed.make(dispatcher, line)),
+            Call::TakeAndPark => Said::Took(take_and_park(dispatcher)),
+            Call::TakeAndClose => Said::Served(take_and_close(dispatcher)),
             Call::Finish(line) => Said::End(line, dispatcher.finish(line)),
         }
     }
 }
 
 impl Said {
-    // The line of which something was said that a tally counts.
-    pub(crate) fn line(self) -> Option<u16> {
+    // Counts it in the tally of its line, if there is one. A start that was parked counts when its line is finished.
+    pub(crate) fn note(self, tallies: &mut [Tally]) {
         match self {
-            Said::Answer(line, _) | Said::End(line, _) => Some(line),
-            Said::Served(Served::Start { line, .. }) => Some(line),
-            Said::Served(Served::Spurious { .. }) | Said::Took(_) => None,
-        }
-    }
-
-    // Counts it in the tally of its line.
-    pub(crate) fn note(self, tally: &mut Tally) {
-        match self {
-            Said::Answer(_, answer) => tally.note_answer(answer),
-            Said::Served(Served::Start { end, .. }) | Said::End(_, end) => tally.note_end(end),
+            Said::Answer(line, answer) => {
+                if let Some(tally) = tallies.get_mut(usize::from(line)) {
+                    tally.note_answer(answer);
+                }
+            }
+            Said::End(line, end) | Said::Served(Served::Start { line, end, .. }) => {
+                if let Some(tally) = tallies.get_mut(usize::from(line)) {
+                    tally.note_end(end);
+                }
+            }
             Said::Served(Served::Spurious { .. }) | Said::Took(_) => {}
         }
     }

@@ -1,7 +1,5 @@
 // Claims that are out while other calls are made.
-ghost use Rattle.std.specs.Prelude.{◌≡◌, true};
-ghost use Rattle.service.specs.Nests.{held};
-ghost use Rattle.dispatch.specs.Snapshots.{snapshot, Sound};
+ghost use Rattle.dispatch.specs.Snapshots.{Holds, Sound};
 
 use crate::spend::{Took, close_or_park, take_and_park};
 use controller::Answer::Accepted;
@@ -23,7 +21,7 @@ fn end(line: u16, depth: usize) -> Result<Ended, Refusal> {
 // Line 2 is started while the handler of line 5 holds its claim.
 fn interrupted<C: Controller>(rt: &impl Abort, dispatcher: &mut Dispatcher<C>, outer: Claim)
     requires sound { Sound C.Controller dispatcher.old }
-    requires held { held outer.line (snapshot C.Controller dispatcher.old).nest ≡ true }
+    requires held { Holds C.Controller dispatcher.old outer }
 {
     match dispatcher.take() {
         Taken::Start {

@@ -1,4 +1,5 @@
-// The dispatcher as tests run it: claims in the hands of handlers, and random calls on every kind of unit.
+// The dispatcher as tests run it: claims in the hands of handlers, the deepest nest, random calls on every kind of unit and
+// against a plain model, and an END as it is printed.
 #![tactic(auto)]
 
 #[cfg(test)]
@@ -7,6 +8,8 @@ mod balance;
 mod calls;
 #[cfg(test)]
 mod claims;
+#[cfg(test)]
+mod counted;
 #[cfg(test)]
 mod model;
 #[cfg(test)]

@@ -1,45 +1,50 @@
 // Random calls against a plain model of eight lines, and after each call the balance of every line: what was accepted was
 // withdrawn, has ended, waits or is in service.
-ghost use Rattle.std.specs.Prelude.{◌<◌, IfSome};
-
-use crate::calls::{Call, Said, Turn};
+use crate::calls::{Call, Passed, Said};
+use crate::counted::Counted;
 use crate::random::Random;
 use crate::spend::{Served, Took, take_and_park};
 use controller::Answer::{Accepted, Done, Noted, Withdrawn};
-use controller::{Answer, Controller, Refusal};
-use dispatch::{Dispatcher, Ended};
+use controller::{Answer, Refusal};
+use dispatch::Ended;
 use i8259a_controller::I8259aController;
 use std::process::Abort;
 use tally::Tally;
 
 const CALLS: usize = 4000;
 
-// A line of the model, and the tally of what the dispatcher said of it.
+// Where the request of a line stands.
+#[derive(Clone, Copy, PartialEq, Eq, Default)]
+enum Stage {
+    #[default]
+    Idle,
+    Waiting,
+    Serving,
+}
+
 #[derive(Clone, Copy, Default)]
 struct Line {
     open: bool,
     high: bool,
-    waiting: bool,
-    serving: bool,
-    tally: Tally,
+    stage: Stage,
 }
 
 impl Line {
     fn rise(&mut self) -> Result<Answer, Refusal> {
         self.high = true;
-        if self.waiting || self.serving {
+        if self.stage != Stage::Idle {
             return Ok(Noted);
         }
-        self.waiting = true;
+        self.stage = Stage::Waiting;
         Ok(Accepted)
     }
 
     fn fall(&mut self) -> Result<Answer, Refusal> {
         self.high = false;
-        if !self.waiting {
+        if self.stage != Stage::Waiting {
             return Ok(Noted);
         }
-        self.waiting = false;
+        self.stage = Stage::Idle;
         Ok(Withdrawn)
     }
 
@@ -49,114 +54,120 @@ impl Line {
     }
 
     fn shut(&mut self) -> Result<Answer, Refusal> {
-        if self.serving {
+        if self.stage == Stage::Serving {
             return Err(Refusal::InService);
         }
         self.open = false;
         Ok(Done)
     }
 
-    fn turn(&mut self, turn: Turn) -> Result<Answer, Refusal> {
-        match turn {
-            Turn::Rise => self.rise(),
-            Turn::Fall => self.fall(),
-            Turn::Open => self.open(),
-            Turn::Shut => self.shut(),
+    fn pass(&mut self, passed: Passed) -> Result<Answer, Refusal> {
+        match passed {
+            Passed::Rise => self.rise(),
+            Passed::Fall => self.fall(),
+            Passed::Open => self.open(),
+            Passed::Shut => self.shut(),
         }
     }
 
-    fn balances(&self) -> bool {
-        let Tally {
-            accepted,
-            withdrawn,
-            ended,
-        } = self.tally;
-        accepted
-            == withdrawn
-                .saturating_add(ended)
-                .saturating_add(u32::from(self.waiting))
-                .saturating_add(u32::from(self.serving))
+    // A line that is still high waits again. Not by `Answer::accepted_if`, with which the controllers answer.
+    fn end(&mut self) -> Answer {
+        if self.high {
+            self.stage = Stage::Waiting;
+            Accepted
+        } else {
+            self.stage = Stage::Idle;
+            Noted
+        }
+    }
+
+    fn balances(&self, tally: &Tally) -> bool {
+        let settled = tally.withdrawn.saturating_add(tally.ended);
+        let unsettled = u32::from(self.stage != Stage::Idle);
+        tally.accepted == settled.saturating_add(unsettled)
     }
 }
 
-// The line of the smallest level in service, which is the newest.
-fn newest(lines: &[Line; 8]) -> Option<usize> {
-    lines.iter().position(|line| line.serving)
-}
+// The lines by their levels, which are their numbers.
+#[derive(Clone, Copy, Default)]
+struct Lines([Line; 8]);
 
-fn depth(lines: &[Line; 8]) -> usize {
-    lines.iter().filter(|line| line.serving).count()
-}
+impl Lines {
+    // The line of the smallest level in service, which is the newest.
+    fn newest(&self) -> Option<usize> {
+        self.0.iter().position(|line| line.stage == Stage::Serving)
+    }
 
-// The open waiting line of the smallest level, if it is below every level in service.
-fn first_ready(lines: &[Line; 8]) -> Option<usize>
-    ensures { IfSome result (λ n. n < 8) }
-{
-    lines
-        .iter()
-        .take_while(|line| !line.serving)
-        .position(|line| line.open && line.waiting)
-}
+    fn depth(&self) -> usize {
+        self.0
+            .iter()
+            .filter(|line| line.stage == Stage::Serving)
+            .count()
+    }
 
-fn take(lines: &mut [Line; 8]) -> Took {
-    match first_ready(lines) {
-        Some(n) => {
-            lines[n].waiting = false;
-            lines[n].serving = true;
-            Took::Start {
-                line: n as u16,
-                depth: depth(lines),
+    // The open waiting line of the smallest level, with its number, if it is below every level in service.
+    fn first_ready(&mut self) -> Option<(u16, &mut Line)> {
+        (0..8)
+            .zip(&mut self.0)
+            .take_while(|(_, line)| line.stage != Stage::Serving)
+            .find(|(_, line)| line.open && line.stage == Stage::Waiting)
+    }
+
+    fn line(&mut self, number: u16) -> Result<&mut Line, Refusal> {
+        self.0.get_mut(usize::from(number)).ok_or(Refusal::NotALine)
+    }
+
+    fn take(&mut self) -> Took {
+        match self.first_ready() {
+            Some((number, line)) => {
+                line.stage = Stage::Serving;
+                Took::Start {
+                    line: number,
+                    depth: self.depth(),
+                }
             }
+            None => Took::Spurious {
+                depth: self.depth(),
+            },
         }
-        None => Took::Spurious {
-            depth: depth(lines),
-        },
     }
-}
 
-fn line_of(lines: &mut [Line; 8], number: u16) -> Result<&mut Line, Refusal> {
-    lines.get_mut(usize::from(number)).ok_or(Refusal::NotALine)
-}
-
-fn turn(lines: &mut [Line; 8], turn: Turn, number: u16) -> Result<Answer, Refusal> {
-    line_of(lines, number)?.turn(turn)
-}
-
-fn finish(lines: &mut [Line; 8], number: u16) -> Result<Ended, Refusal> {
-    let depth = depth(lines);
-    let newest = newest(lines);
-    let line = line_of(lines, number)?;
-    if newest != Some(usize::from(number)) {
-        return Err(Refusal::NotNewest);
-    }
-    line.serving = false;
-    line.waiting = line.high;
-    Ok(Ended {
-        line: number,
-        depth,
-        // Not by `Answer::accepted_if`, with which the controllers answer.
-        answer: if line.high { Accepted } else { Noted },
-    })
-}
-
-// A take and at once the close of what it started.
-fn handle(lines: &mut [Line; 8]) -> Served {
-    match take(lines) {
-        Took::Start { line, depth } => {
-            let end = finish(lines, line);
-            Served::Start { line, depth, end }
+    fn finish(&mut self, number: u16) -> Result<Ended, Refusal> {
+        let depth = self.depth();
+        let newest = self.newest();
+        let line = self.line(number)?;
+        if newest != Some(usize::from(number)) {
+            return Err(Refusal::NotNewest);
         }
-        Took::Spurious { depth } => Served::Spurious { depth },
+        Ok(Ended {
+            line: number,
+            depth,
+            answer: line.end(),
+        })
     }
-}
 
-// What the model says of a call.
-fn expected(lines: &mut [Line; 8], call: Call) -> Said {
-    match call {
-        Call::Turn(what, line) => Said::Answer(line, turn(lines, what, line)),
-        Call::Park => Said::Took(take(lines)),
-        Call::Handle => Said::Served(handle(lines)),
-        Call::Finish(line) => Said::End(line, finish(lines, line)),
+    fn take_and_close(&mut self) -> Served {
+        match self.take() {
+            Took::Start { line, depth } => {
+                let end = self.finish(line);
+                Served::Start { line, depth, end }
+            }
+            Took::Spurious { depth } => Served::Spurious { depth },
+        }
+    }
+
+    fn pass(&mut self, passed: Passed, number: u16) -> Result<Answer, Refusal> {
+        self.line(number)?.pass(passed)
+    }
+
+    // What is to be said of a call.
+    fn answer(&mut self, call: Call) -> Said {
+        match call {
+            Call::Pass(passed, number) => Said::Answer(number, self.pass(passed, number)),
+            Call::TakeAndPark => Said::Took(self.take()),
+            Call::TakeAndClose => Said::Served(self.take_and_close()),
+            Call::Finish(number) => Said::End(number, self.finish(number)),
+        }
     }
 }
 
@@ -164,12 +175,12 @@ fn expected(lines: &mut [Line; 8], call: Call) -> Said {
 fn drawn(choice: u8, byte: u8) -> Call {
     let line = u16::from(byte % 8);
     match choice {
-        0..=3 => Call::Turn(Turn::Rise, line),
-        4..=5 => Call::Turn(Turn::Fall, line),
-        6..=7 => Call::Turn(Turn::Open, line),
-        8 => Call::Turn(Turn::Shut, line),
-        9..=10 => Call::Park,
-        11 => Call::Handle,
+        0..=3 => Call::Pass(Passed::Rise, line),
+        4..=5 => Call::Pass(Passed::Fall, line),
+        6..=7 => Call::Pass(Passed::Open, line),
+        8 => Call::Pass(Passed::Shut, line),
+        9..=10 => Call::TakeAndPark,
+        11 => Call::TakeAndClose,
         12 => Call::Finish(line + 8),
         _ => Call::Finish(line),
     }
@@ -178,54 +189,53 @@ fn drawn(choice: u8, byte: u8) -> Call {
 // The dispatcher and the model, of which every call is made; the two say the same.
 #[derive(Drop)]
 struct Twin {
-    dispatcher: Dispatcher<I8259aController>,
-    lines: [Line; 8],
+    counted: Counted<I8259aController>,
+    model: Lines,
 }
 
 impl Twin {
     fn new() -> Twin {
         Twin {
-            dispatcher: Dispatcher::new(I8259aController::new()),
-            lines: [Line::default(); 8],
+            counted: Counted::new(I8259aController::new()),
+            model: Lines::default(),
         }
     }
 
-    // The call at that place.
-    fn call(&mut self, rt: &impl Abort, call: Call, place: usize) {
-        let said = call.make(&mut self.dispatcher);
-        assert_eq!(rt; said, expected(&mut self.lines, call), "call {place}");
-        if let Some(number) = said.line()
-            && let Ok(line) = line_of(&mut self.lines, number)
-        {
-            said.note(&mut line.tally);
+    fn call(&mut self, rt: &impl Abort, call: Call) {
+        let said = self.counted.call(call);
+        assert_eq!(rt; said, self.model.answer(call), "{call:?}");
+        for (line, tally) in self.model.0.iter().zip(&self.counted.tallies) {
+            assert!(rt; line.balances(tally), "{call:?}: {tally:?}");
         }
-        for line in self.lines.iter() {
-            assert!(rt; line.balances(), "call {place}");
-        }
-        assert_eq!(rt; self.dispatcher.depth(), depth(&self.lines), "call {place}");
+        let depth = self.counted.dispatcher.depth();
+        assert_eq!(rt; depth, self.model.depth(), "{call:?}");
     }
 
-    // Every line falls and every line in service is finished: then each request was withdrawn or has ended.
-    fn drain(&mut self, rt: &impl Abort) {
+    // Every line falls and is opened.
+    fn fall_all(&mut self, rt: &impl Abort) {
         for line in 0..8 {
-            self.call(rt, Call::Turn(Turn::Fall, line), CALLS);
-            self.call(rt, Call::Turn(Turn::Open, line), CALLS);
+            self.call(rt, Call::Pass(Passed::Fall, line));
+            self.call(rt, Call::Pass(Passed::Open, line));
         }
+    }
+
+    // Every line in service is finished, the newest first.
+    fn finish_all(&mut self, rt: &impl Abort) {
         for line in 0..8 {
-            self.call(rt, Call::Finish(line), CALLS);
+            self.call(rt, Call::Finish(line));
         }
+    }
+
+    // Nothing is left to take, and each request of every line was withdrawn or has ended.
+    fn check_drained(&mut self, rt: &impl Abort) {
         assert_eq!(rt;
-            take_and_park(&mut self.dispatcher),
+            take_and_park(&mut self.counted.dispatcher),
             Took::Spurious { depth: 0 }
         );
-        for line in self.lines.iter() {
-            let Tally {
-                accepted,
-                withdrawn,
-                ended,
-            } = line.tally;
-            assert!(rt; accepted > 0);
-            assert_eq!(rt; accepted, withdrawn.saturating_add(ended));
+        for tally in &self.counted.tallies[..8] {
+            let settled = tally.withdrawn.saturating_add(tally.ended);
+            assert!(rt; tally.accepted > 0, "{tally:?}");
+            assert_eq!(rt; tally.accepted, settled, "{tally:?}");
         }
     }
 }
@@ -233,8 +243,10 @@ impl Twin {
 #[test]
 fn random_calls_balance(rt: HostRuntime) {
     let mut twin = Twin::new();
-    for (place, (choice, byte)) in Random(1).take(CALLS).enumerate() {
-        twin.call(&rt, drawn(choice, byte), place);
+    for (choice, byte) in Random(1).take(CALLS) {
+        twin.call(&rt, drawn(choice, byte));
     }
-    twin.drain(&rt);
+    twin.fall_all(&rt);
+    twin.finish_all(&rt);
+    twin.check_drained(&rt);
 }

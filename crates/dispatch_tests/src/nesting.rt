@@ -1,24 +1,14 @@
 // The deepest nest: every level is started above a larger one, and the ninth take is spurious.
 use crate::spend::{Took, take_and_park};
 use controller::Answer::{Accepted, Done, Noted};
-use controller::{Controller, Refusal};
+use controller::Refusal;
 use dispatch::{Dispatcher, Ended, Entry, Mark};
 use i8259a_controller::I8259aController;
 use std::process::Abort;
 
-// The levels, in the order in which they are started, each with the depth that it brings.
-const LEVELS: [(u16, usize); 8] = [
-    (7, 1),
-    (6, 2),
-    (5, 3),
-    (4, 4),
-    (3, 5),
-    (2, 6),
-    (1, 7),
-    (0, 8),
-];
+type Unit = Dispatcher<I8259aController>;
 
-fn start(rt: &impl Abort, dispatcher: &mut Dispatcher<I8259aController>, line: u16, depth: usize) {
+fn start(rt: &impl Abort, dispatcher: &mut Unit, line: u16, depth: usize) {
     assert_eq!(rt; dispatcher.open(line), Ok(Done));
     assert_eq!(rt; dispatcher.rise(line), Ok(Accepted));
     assert_eq!(rt; dispatcher.rise(line), Ok(Noted));
@@ -34,7 +24,7 @@ fn start(rt: &impl Abort, dispatcher: &mut Dispatcher<I8259aController>, line: u
     assert_eq!(rt; dispatcher.depth(), depth);
 }
 
-fn finish(rt: &impl Abort, dispatcher: &mut Dispatcher<I8259aController>, line: u16, depth: usize) {
+fn finish(rt: &impl Abort, dispatcher: &mut Unit, line: u16, depth: usize) {
     let end = Ended {
         line,
         depth,
@@ -45,16 +35,25 @@ fn finish(rt: &impl Abort, dispatcher: &mut Dispatcher<I8259aController>, line: 
     assert_eq!(rt; dispatcher.finish(line), Err(Refusal::NotNewest));
 }
 
+// From level 7 up: each level brings a depth more.
+fn start_all(rt: &impl Abort, dispatcher: &mut Unit) {
+    for line in (0..8).rev() {
+        start(rt, dispatcher, line, usize::from(8 - line));
+    }
+}
+
+fn finish_all(rt: &impl Abort, dispatcher: &mut Unit) {
+    for line in 0..8 {
+        finish(rt, dispatcher, line, usize::from(8 - line));
+    }
+}
+
 #[test]
 fn eight_levels_nest(rt: HostRuntime) {
     let mut dispatcher = Dispatcher::new(I8259aController::new());
     assert_eq!(rt; take_and_park(&mut dispatcher), Took::Spurious { depth: 0 });
-    for (line, depth) in LEVELS {
-        start(&rt, &mut dispatcher, line, depth);
-    }
+    start_all(&rt, &mut dispatcher);
     assert_eq!(rt; take_and_park(&mut dispatcher), Took::Spurious { depth: 8 });
-    for (line, depth) in LEVELS.iter().copied().rev() {
-        finish(&rt, &mut dispatcher, line, depth);
-    }
+    finish_all(&rt, &mut dispatcher);
     assert_eq!(rt; take_and_park(&mut dispatcher), Took::Spurious { depth: 0 });
 }

@@ -1,5 +1,5 @@
 // An END as it is printed.
-use controller::Answer;
+use controller::Answer::Noted;
 use dispatch::Ended;
 use std::test::Fail;
 
@@ -8,9 +8,11 @@ fn an_end_is_printed(rt: HostRuntime) -> Result<(), Fail> {
     let ended = Ended {
         line: 9,
         depth: 2,
-        answer: Answer::Noted,
+        answer: Noted,
     };
-    let printed = format!(in rt.alloc(); "{ended}")?;
-    assert_eq!(rt; printed.as_str(), "END 9, depth 2, NOTED");
+    assert_eq!(rt;
+        format!(in rt.alloc(); "{ended}")?.as_str(),
+        "END 9, depth 2, NOTED"
+    );
     Ok(())
 }

@@ -1,4 +1,4 @@
-// Random calls, the same in each run.
+// Random calls, the same in each run. The generator is no library's: there it would be a public call, with a contract of its own.
 
 // The states of a linear congruential generator.
 #[derive(Drop)]

@@ -1,9 +1,6 @@
 // Calls that take a claim and spend it at once, and what is kept of it. What they require of a claim no public function
-// may require, so cases and incident have theirs.
-ghost use Rattle.std.specs.Prelude.{◌≡◌, true};
-ghost use Rattle.service.specs.Nests.{held};
-ghost use Rattle.dispatch.specs.Claims.{OthersStayHeld};
-ghost use Rattle.dispatch.specs.Snapshots.{snapshot, Sound};
+// may require, so cases, incident and long_runs have theirs.
+ghost use Rattle.dispatch.specs.Snapshots.{Holds, KeepsOtherClaims};
 
 use controller::{Controller, Refusal};
 use dispatch::{Claim, Dispatcher, Ended, Refused, Taken};
@@ -30,22 +27,14 @@ pub(crate) enum Served {
 
 // A claim that is held is parked without fail.
 pub(crate) fn park<C: Controller>(dispatcher: &mut Dispatcher<C>, claim: Claim)
-    requires { held claim.line (snapshot C.Controller dispatcher.old).nest ≡ true }
-    ensures sound { Sound C.Controller dispatcher.old → Sound C.Controller dispatcher.new }
-    ensures others { OthersStayHeld claim.line (snapshot C.Controller dispatcher.old).nest (snapshot C.Controller dispatcher.new).nest }
+    requires { Holds C.Controller dispatcher.old claim }
+    ensures { KeepsOtherClaims C.Controller claim dispatcher.old dispatcher.new }
 {
-    match dispatcher.park(claim) {
-        Ok(()) => {}
-        Err(
-            Refused {
-                why: _,
-                claim: _back,
-            },
-        ) => unreachable(),
-    }
+    dispatcher.park(claim).unwrap();
 }
 
-// Takes, and parks what was started.
+// Takes, and parks what was started. This and `take_and_close` are two: one function would be given a closure that spends
+// the claim, and that the claim is held would be required at each closure and at the function.
 pub(crate) fn take_and_park<C: Controller>(dispatcher: &mut Dispatcher<C>) -> Took {
     match dispatcher.take() {
         Taken::Start { depth, claim } => {
@@ -62,10 +51,10 @@ pub(crate) fn close_or_park<C: Controller>(
     dispatcher: &mut Dispatcher<C>,
     claim: Claim,
 ) -> Result<Ended, Refusal>
-    requires { held claim.line (snapshot C.Controller dispatcher.old).nest ≡ true }
-    ensures sound { Sound C.Controller dispatcher.old → Sound C.Controller dispatcher.new }
-    ensures others { OthersStayHeld claim.line (snapshot C.Controller dispatcher.old).nest (snapshot C.Controller dispatcher.new).nest }
+    requires { Holds C.Controller dispatcher.old claim }
+    ensures { KeepsOtherClaims C.Controller claim dispatcher.old dispatcher.new }
 {
+    // By hand: with map_err the proof did not close, since what its closure leaves of the other claims is lost.
     match dispatcher.close(claim) {
         Ok(ended) => Ok(ended),
         Err(Refused { why, claim }) => {

@@ -1,11 +1,11 @@
 -- The laws of a chip's calls.
-use Rattle.std.proofs.Common.{◌≡◌, ℕ, ◌%◌, ◌<◌, true, false, not, ◌&&◌, ◌||◌, eqb, ◌≢◌, is_ok, Some, None, Ok, Err, Option, Result, sym, refl, ap, ◌∙◌, subst, inl, inr, ⊎_elim, arith}
+use Rattle.std.proofs.Common.{◌≡◌, ℕ, ◌%◌, ◌<◌, true, false, not, ◌&&◌, ◌||◌, eqb, ◌≢◌, is_ok, Some, None, Ok, Err, Option, Result, sym, refl, ap, ◌∙◌, subst, inl, inr, arith}
 use mathlib.Core.Bool.{and-true, or-false}
-use Rattle.std.proofs.lemmas.Bool.{cond-true, cond-false, cases_Bool, lt-ltb, eq-eqb, ne_eqb, both_ways, or_right, and_right}
+use Rattle.std.proofs.lemmas.Bool.{cond-true, cond-false, false_from_ne_true, lt-ltb, eq-eqb, ne_eqb, both_ways, or_right, and_right}
 use Rattle.controller.specs.declared.refusal.Refusal.{Refusal}
 use Rattle.i8259a.specs.declared.chip.I8259a.{I8259a}
 use Rattle.i8259a.specs.declared.chip.Step.{Step}
-use Rattle.i8259a.specs.declared.chip.Step.TheVariants.{Icw1, Icw2, Icw3, Icw4, Done}
+use Rattle.i8259a.specs.declared.chip.Step.TheVariants.{Done}
 use Rattle.i8259a.specs.Bits.{bit, with, without, without_if, lowest}
 use Rattle.i8259a.specs.Chip.{with_isr, risen, fallen, read_answer, is_set_up}
 use Rattle.i8259a.specs.Signal.{SetUp, InService, Urgent, NoneUrgent, First, Acknowledges, Names}
@@ -63,8 +63,7 @@ plain-after c b l s o h =
 
 -- A level below all in service is not in service.
 none_below : (c : I8259a) (n : ℕ) → Newest c n → (m : ℕ) → m < n → bit c.isr m ≡ false
-none_below c n w m lt =
-    ⊎_elim (λ e. absurd (omega (arith, w.lowest m (omega (arith, w.serves.0), e)))) (λ e. e) (cases_Bool (bit c.isr m))
+none_below c n w m lt = false_from_ne_true _ (λ e. omega (arith, w.lowest m (omega (arith, w.serves.0), e)))
 
 plain-end-law : (c : I8259a) (b n : ℕ) → SetUp c → Ocw2 1 b → Newest c n → Ends c n (write_after c 0 b)
 plain-end-law c b n s o w =
@@ -72,19 +71,15 @@ plain-end-law c b n s o w =
     subst (Ends c n) (sym after) (ends_at c n w.serves.0)
 
 idle-end-law : (c : I8259a) (b : ℕ) → SetUp c → Ocw2 1 b → ((n : ℕ) → InService c n → ⊥) → write_after c 0 b ≡ c
-idle-end-law c b s o none =
-    plain-after c b None s o (λ m le lt. ⊎_elim (λ e. absurd (none m (lt, e))) (λ e. e) (cases_Bool (bit c.isr m)))
+idle-end-law c b s o none = plain-after c b None s o (λ m le lt. false_from_ne_true _ (λ e. none m (lt, e)))
 
 no-end-law : (c : I8259a) (b : ℕ) → SetUp c → Ocw2 2 b → (write_answer c 0 b ≡ Ok tt) × (write_after c 0 b ≡ c)
 no-end-law c b s o = let h = ocw2-law c 2 b s o refl in (h.0, h.1 ∙ simp o.command)
 
 -- A chip that is set up is at the last step, where port 1 takes the mask and port 0 the commands.
 done-step : (s : Step) → is_set_up s ≡ true → s ≡ Done
-done-step Icw1 e = absurd (both_ways false refl e)
-done-step Icw2 e = absurd (both_ways false refl e)
-done-step Icw3 e = absurd (both_ways false refl e)
-done-step Icw4 e = absurd (both_ways false refl e)
 done-step Done e = refl
+done-step _ e = cc
 
 mask-law : (c : I8259a) (b : ℕ) → SetUp c → read_answer (write_after c 1 b) 1 ≡ Ok b
 mask-law c b s = simp (done-step c.step s)

@@ -1,6 +1,7 @@
 -- The winner of the arbitration tree is the lowest level of the set, and the level ahead of all in service comes first.
-use Rattle.std.proofs.Common.{◌≡◌, ℕ, ◌<◌, ◌≤◌, Bool, true, false, not, ltb, leb, List, Some, None, Option, sym, refl, ap, ◌∙◌, ⊎_elim, arith}
-use Rattle.std.proofs.lemmas.Bool.{cond-true, cond-false, cases_Bool, cases_lt, cond_both, leb-true, ltb-true, ltb-false, and_parts, and_from, both_ways}
+use Rattle.std.proofs.Common.{◌≡◌, ℕ, ◌<◌, ◌≤◌, true, not, ltb, leb, List, Some, None, Option, sym, ap, ◌∙◌, ⊎_elim, arith}
+use Rattle.std.proofs.lemmas.Bool.{cond-true, cond-false, cases_Bool, cases_lt, cond_both, leb-true, ltb-true, ltb-false, and_parts, and_from, both_ways, false_from_ne_true, not-true}
+use Rattle.std.proofs.lemmas.Option.{none-some, same_Some}
 use Rattle.arbiter.specs.Winning.{Holds, Winner}
 use Rattle.arbiter.specs.declared.key.Level.{Level}
 use Rattle.i8259a.specs.declared.chip.I8259a.{I8259a}
@@ -16,22 +17,19 @@ module _ (x : ℕ) (ls : List (Option Level)) (levels : Levels x ls) where
   is_set : (n : ℕ) (k : Level) → n < 8 → Holds ls n k → (bit x n ≡ true) × (k.0 ≡ n)
   is_set n k lt h =
       ⊎_elim
-      (λ e. let s : Some (record { 0 = n }) ≡ Some k = sym (holds n lt e) ∙ h in
-      (e, (let t : ◌≡◌ {A = Level} (record { 0 = n }) k = cc in sym (ap (λ (y : Level). y.0) t))))
-      (λ e. let s : None ≡ Some k = sym (levels.1 n lt ∙ cond-false _ _ _ e) ∙ h in let z : ◌≡◌ {A = ℕ} 0 1 = cc in absurd (omega arith))
+      (λ e. (e, sym (ap (λ (y : Level). y.0) (same_Some _ k (sym (holds n lt e) ∙ h)))))
+      (λ e. absurd (none-some k (sym (levels.1 n lt ∙ cond-false _ _ _ e) ∙ h)))
       (cases_Bool (bit x n))
 
   wins-lowest : (r : Option ℕ) → Winner (λ a b. leb a.0 b.0) ls r → Lowest x r
-  wins-lowest None w = λ n le lt. ⊎_elim (λ e. absurd (w n _ (holds n lt e))) (λ e. e) (cases_Bool (bit x n))
+  wins-lowest None w = λ n le lt. false_from_ne_true _ (λ e. w n _ (holds n lt e))
   wins-lowest (Some i) w =
       let small : i < 8 = omega (arith, w.within, levels.0) in
       let s = is_set i w.key small w.held in (
         omega arith,
         small,
         s.0,
-        λ n le lt. ⊎_elim
-            (λ e. absurd (omega (arith, s.1, leb-true _ _ (w.leads n _ (holds n (omega arith) e)))))
-            (λ e. e) (cases_Bool (bit x n)),
+        λ n le lt. false_from_ne_true _ (λ e. omega (arith, s.1, leb-true _ _ (w.leads n _ (holds n (omega arith) e)))),
       )
 
   -- What the tree answers is the lowest level.
@@ -47,10 +45,6 @@ module _ (c : I8259a) (byte : c.imr < 256) where
   asked n lt e =
       let both = and_parts (bit c.irr n) _ (sym (bit-outside c.irr c.imr n byte lt) ∙ e) in
       record { level = lt; high = both.0; unmasked = not-true (bit c.imr n) both.1 }
-    where
-      not-true : (b : Bool) → not b ≡ true → b ≡ false
-      not-true true e = sym e
-      not-true false e = refl
 
   -- No level that requests is lower than the lowest, and none in service.
   least : (x n : ℕ) → Lowest x (Some n) → (m : ℕ) → bit x m ≡ true → n ≤ m

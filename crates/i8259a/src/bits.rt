@@ -1,9 +1,10 @@
-// A byte as a set of the levels 0 to 7.
+// A byte as a set of the levels 0 to 7. The levels are numbers: the ports' bytes and the lines of the chip give them as such.
 ghost use Rattle.std.specs.Prelude.{◌≡◌, ◌<◌, IfSome};
 ghost use Rattle.i8259a.specs.Bits.{bit, with, without, without_lowest, lowest, Levels};
 
 use arbiter::{Level, winner};
 
+// The PLIC and the traces ask the like of their own numbers: the three crates share none that knows of bits, and each is one expression.
 pub(crate) fn bit(x: u8, n: u8) -> bool
     requires { n < 8 }
     ensures { result ≡ bit x n }
@@ -11,7 +12,7 @@ pub(crate) fn bit(x: u8, n: u8) -> bool
     (x >> n) % 2 == 1
 }
 
-// A type of levels would carry that n is one, but ports, masks and leaves take the number. `with` and `without` stay two: one function with a flag would say no more, and each caller knows which it wants.
+// `with` and `without` are two: each caller here wants one of them always, so a flag would be a constant at every call.
 pub(crate) fn with(x: u8, n: u8) -> u8
     requires { n < 8 }
     ensures { result ≡ with x n }

@@ -8,8 +8,9 @@ use crate::bits::{lowest, with, without};
 use controller::Refusal;
 
 // What the set-up waits for.
-#[derive(Clone, Copy, PartialEq, Eq, Debug)]
+#[derive(Clone, Copy, PartialEq, Eq, Debug, Default)]
 pub(crate) enum Step {
+    #[default]
     Icw1,
     Icw2,
     Icw3,
@@ -18,14 +19,15 @@ pub(crate) enum Step {
 }
 
 // A register that port 0 can read as.
-#[derive(Clone, Copy, PartialEq, Eq, Debug)]
+#[derive(Clone, Copy, PartialEq, Eq, Debug, Default)]
 pub enum Register {
+    #[default]
     Irr,
     Isr,
 }
 
 // The read select: which register port 0 reads as.
-#[derive(Clone, Copy, PartialEq, Eq, Debug)]
+#[derive(Clone, Copy, PartialEq, Eq, Debug, Default)]
 pub(crate) struct ReadSelect {
     pub(crate) register: Register,
 }
@@ -42,7 +44,8 @@ impl ReadSelect {
     }
 }
 
-#[derive(Clone, Copy, PartialEq, Eq, Debug)]
+// The default is a new chip: all zero, IRR selected, not set up.
+#[derive(Clone, Copy, PartialEq, Eq, Debug, Default)]
 pub struct I8259a {
     pub(crate) irr: u8,
     pub(crate) isr: u8,
@@ -64,22 +67,12 @@ pub fn level_of(n: u16) -> Result<u8, Refusal>
 }
 
 impl I8259a {
-    // All zero, IRR selected, not set up. Whoever makes a chip learns the laws of its calls.
+    // A new chip. Whoever makes one learns the laws of its calls.
     pub fn new() -> I8259a
         ensures value { result ≡ fresh }
         ensures laws { ChipLaws }
     {
-        I8259a {
-            irr: 0,
-            isr: 0,
-            imr: 0,
-            select: ReadSelect {
-                register: Register::Irr,
-            },
-            icw2: 0,
-            icw3: 0,
-            step: Step::Icw1,
-        }
+        I8259a::default()
     }
 
     // Line n rises.

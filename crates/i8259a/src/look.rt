@@ -3,7 +3,7 @@ ghost use Rattle.std.specs.Prelude.{◌≡◌};
 ghost use Rattle.i8259a.specs.Chip.{shown, shows};
 
 use crate::bits::bit;
-use crate::chip::{I8259a, ReadSelect, Register};
+use crate::chip::{I8259a, ReadSelect, Register, level_of};
 
 // Holds the chip's read select while another register is selected, and restores it at its end.
 struct Restore<'a> {
@@ -51,12 +51,11 @@ impl I8259a {
         ensures answer { result ≡ shows self.old register n }
         ensures after { self.new ≡ self.old }
     {
-        // It leaves early under a guard of its own, and not by way of `look`: the guard restores on every way out.
-        let held = Restore::selecting(&mut self.select, register);
-        if n > 7 {
+        // Under a guard of its own, and not by way of `look`: that the select is put back on an early way out, too, is to be seen here.
+        let restore = Restore::selecting(&mut self.select, register);
+        let Ok(level) = level_of(n) else {
             return false;
-        }
-        let byte = held.select.shown(self.irr, self.isr);
-        bit(byte, n as u8)
+        };
+        bit(restore.select.shown(self.irr, self.isr), level)
     }
 }

@@ -1,4 +1,5 @@
-// What a byte written to a port means: it depends on the set-up step, the port and the byte.
+// What a byte written to a port means: it depends on the set-up step, the port and the byte. Ports and bytes are numbers, as a driver
+// gives them: any is asked about.
 ghost use Rattle.std.specs.Prelude.{◌≡◌, if◌then◌else◌, Ok};
 ghost use Rattle.controller.specs.declared.refusal.Refusal.TheVariants.{NotModelled};
 ghost use Rattle.controller.specs.Refusals.{asks};

@@ -1,6 +1,6 @@
 -- Each call does what the rules say, and keeps the chip sound.
 use Rattle.std.specs.Prelude.{◌≡◌, ℕ, ◌<◌, Bool, true, false, cond, not, ◌&&◌, ◌||◌, ◌≢◌, Some, None, Ok, Err, Option, ◌==◌, refl}
-use Rattle.std.proofs.Common.{sym, ap, ◌∙◌, subst, ⊎_elim, arith}
+use Rattle.std.proofs.Common.{sym, ap, ◌∙◌, subst, ⊎_elim}
 use Rattle.std.proofs.lemmas.Bool.{cases_eq, cases_lt, and_from, and_parts, and_left, and_right, not_from_false, not_from_true, lt-ltb, le-ltb, both_ways, cond-true}
 use mathlib.Core.Bool.{and-true, and-false}
 use Rattle.controller.specs.declared.refusal.Refusal.TheVariants.{NotALine, InService, NotNewest}
@@ -25,8 +25,7 @@ use Rattle.i8259a_controller.proofs.Signals.{first-ready, none-ready}
 pub of_a_line : {A : Type 0} (n : ℕ) (a b : A) → asks (is_line n) NotALine (Ok a) ≡ Ok b → n < 8
 of_a_line {A} n a b e =
     ⊎_elim (λ lt. lt)
-    (λ le. let refused : asks (is_line n) NotALine (Ok a) ≡ Err NotALine = ap (λ l. asks l NotALine (Ok a)) (le-ltb n 8 le) in
-    let z : ◌≡◌ {A = ℕ} 0 1 = cc in absurd (omega arith))
+    (λ le. let refused : asks (is_line n) NotALine (Ok a) ≡ Err NotALine = ap (λ l. asks l NotALine (Ok a)) (le-ltb n 8 le) in cc)
     (cases_lt n 8)
 
 -- Waiting is high and not in service: what a change of one of the two does to it.

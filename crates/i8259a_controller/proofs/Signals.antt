@@ -1,7 +1,7 @@
 -- What is urgent at the chip is ready at the controller.
 use Rattle.std.specs.Prelude.{◌≡◌, ℕ, ◌<◌, Bool, true, false, cond, not, ◌&&◌, ◌||◌, List, [], ◌∷◌, Some, None, Ok, Option, ◌==◌}
-use Rattle.std.proofs.Common.{sym, ap, ◌∙◌, subst, inl, inr, ⊎_elim, arith}
-use Rattle.std.proofs.lemmas.Bool.{cases_Bool, and_from, and_parts, not-true, not_from_false, lt-ltb, ltb-true, both_ways, eqb-true, eq-eqb, cond_both, or_parts, not-false}
+use Rattle.std.proofs.Common.{sym, ap, ◌∙◌, subst, inl, inr, arith}
+use Rattle.std.proofs.lemmas.Bool.{false_from_ne_true, and_from, and_parts, not-true, not_from_false, lt-ltb, ltb-true, both_ways, eqb-true, eq-eqb, cond_both, or_parts, not-false}
 use Rattle.controller.specs.Meaning.{among, Beats, Ready, FirstReady, NoneReady}
 use Rattle.controller.specs.Rules as rules
 use Rattle.controller.proofs.Stacks.{beats-all, among-head}
@@ -28,8 +28,7 @@ module _ (c : I8259a) (sound : Sound c) where
   urgent-ready n u =
       let level : n < 8 = u.requests.level in
       let line : is_line n ≡ true = lt-ltb n 8 level in
-      let idle : has c.isr n ≡ false =
-      ⊎_elim (λ e. let lt : n < n = u.below n (serving n e) in absurd (omega arith)) (λ e. e) (cases_Bool (has c.isr n)) in
+      let idle : has c.isr n ≡ false = false_from_ne_true _ (λ e. let lt : n < n = u.below n (serving n e) in omega arith) in
       record {
         line = line;
         opened = and_from (is_line n) _ line (not_from_false _ (has_in c.imr n level ∙ u.requests.unmasked));
@@ -75,7 +74,7 @@ spurious c d n before after was is a doubt = elim a.1 [
       let seven = not-false _ (or_parts (not (n == 7)) (not before && after) doubt).0 in
       let e : n ≡ 7 = eqb-true n 7 seven in
       let first : First c 7 = subst (First c) e h.0 in
-      let clear : before ≡ false = was ∙ ⊎_elim (λ on. let lt : 7 < 7 = first.urgent.below 7 (lt-self, on) in absurd (omega arith)) (λ off. off) (cases_Bool (bit c.isr 7)) in
+      let clear : before ≡ false = was ∙ false_from_ne_true _ (λ on. let lt : 7 < 7 = first.urgent.below 7 (lt-self, on) in omega arith) in
       let set : after ≡ true = is ∙ ap (λ (z : I8259a). shows z Isr 7) h.1 ∙ ap (λ k. has (with c.isr k) 7) e ∙ with-here c.isr 7 lt-self in
       absurd (both_ways _ (or_parts (not (n == 7)) (not before && after) doubt).1 (and_from (not before) after (not_from_false _ clear) set))
   | inr h ↦ (h.0, h.2)

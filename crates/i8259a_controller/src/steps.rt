@@ -1,4 +1,4 @@
-// What the controller does with its chip, one register at a time.
+// What the controller does with its chip, one register at a time. Levels are numbers, as the chip's commands have them.
 ghost use Rattle.std.specs.Prelude.{◌≡◌, ◌<◌, cond};
 ghost use Rattle.i8259a.specs.Bits.{with, without, lowest};
 ghost use Rattle.i8259a.specs.Chip.{with_imr, with_isr};
@@ -48,7 +48,8 @@ impl Line {
     }
 }
 
-// Puts the bit of a level into the mask, or takes it out.
+// Puts the bit of a level into the mask, or takes it out. The chip does the like to its own registers; shared, that would be a public
+// function that requires a level below 8, and no public function here requires anything. A chip that is set up refuses neither access.
 pub(crate) fn set_masked(chip: &mut I8259a, level: u8, masked: bool)
     requires { level < 8 }
     ensures { SetUp chip.old → chip.new ≡ with_imr chip.old (cond masked (with chip.old.imr level) (without chip.old.imr level)) }
@@ -59,7 +60,7 @@ pub(crate) fn set_masked(chip: &mut I8259a, level: u8, masked: bool)
     }
 }
 
-// The specific end of a level.
+// The specific end of a level. A chip that is set up takes the command.
 pub(crate) fn end(chip: &mut I8259a, level: u8)
     requires { level < 8 }
     ensures { SetUp chip.old → chip.new ≡ with_isr chip.old (without chip.old.isr level) }

@@ -28,6 +28,7 @@ impl I8259aController {
         ensures laws { RuleLaws }
     {
         let mut chip = I8259a::new();
+        // Neither is refused: the set-up is in its order, and then port 1 takes the mask.
         let _ = set_up(&mut chip, 0x08, 0x00);
         let _ = chip.write(1, 0xff);
         I8259aController { chip }
@@ -144,8 +145,8 @@ impl Controller for I8259aController {
         if steps::newest(&mut self.chip) != Some(level) {
             return Err(Refusal::NotNewest);
         }
-        let line = Line::shown(&mut self.chip, n);
+        let high = self.chip.shows(Register::Irr, n);
         steps::end(&mut self.chip, level);
-        Ok(Answer::accepted_if(line.high))
+        Ok(Answer::accepted_if(high))
     }
 }

@@ -1,4 +1,5 @@
-// Worked behaviour of piles of two chips and of three, as scripts of calls with their answers.
+// Worked behaviour of piles of two chips and of three: scripts of calls with their replies, lines that are taken by rank, and
+// parts that do not fit.
 #![tactic(auto)]
 
 #[cfg(test)]

@@ -4,7 +4,7 @@ use crate::script::Call::{
 };
 use crate::script::Reply::{Answered, Is, Line, Said};
 use crate::script::{Step, run};
-use cascade::{Cascade, check as fits};
+use cascade::{Cascade, check};
 use controller::Refusal::NotALine;
 use controller::{Controller, Refusal};
 use i8259a_controller::I8259aController;
@@ -45,7 +45,7 @@ fn four() -> Cascade<
     Cascade::new(old_unit(), 0, old_unit())
 }
 
-// Puts line n into service.
+// Puts line n into service, as in cases; but this asserts, and so takes an `Abort`, which no library function here may have.
 fn serve<C: Controller>(rt: &impl Abort, unit: &mut C, n: u16) {
     let _ = unit.open(n);
     let _ = unit.rise(n);
@@ -56,20 +56,20 @@ fn serve<C: Controller>(rt: &impl Abort, unit: &mut C, n: u16) {
 fn the_check_asks_in_order(rt: HostRuntime) {
     let mut outer = Cascade::new(four(), 1, four());
     let mut inner = four();
-    assert_eq!(rt; fits(&mut outer, 3, &mut old_unit()), Ok(()));
-    assert_eq!(rt; fits(&mut outer, 3, &mut inner), Err(Refusal::TooLarge));
+    assert_eq!(rt; check(&mut outer, 3, &mut old_unit()), Ok(()));
+    assert_eq!(rt; check(&mut outer, 3, &mut inner), Err(Refusal::TooLarge));
     serve(&rt, &mut inner, 3);
     assert_eq!(rt;
-        fits(&mut outer, 3, &mut inner),
+        check(&mut outer, 3, &mut inner),
         Err(Refusal::PartInService)
     );
     serve(&rt, &mut outer, 4);
     assert_eq!(rt;
-        fits(&mut outer, 3, &mut four()),
+        check(&mut outer, 3, &mut four()),
         Err(Refusal::PartInService)
     );
     assert_eq!(rt;
-        fits(&mut outer, 1, &mut inner),
+        check(&mut outer, 1, &mut inner),
         Err(Refusal::NotAFleetingLine)
     );
     assert_eq!(rt; outer.newest(), Some(4));

@@ -3,8 +3,10 @@ use crate::script::Call::{Open, Rise, Span, There, Width};
 use crate::script::Reply::{Answered, Is, Said};
 use crate::script::{Step, run, run_by_rank};
 use cascade::Cascade;
+use controller::Controller;
 use controller::Refusal::NotALine;
 use i8259a_controller::I8259aController;
+use std::process::Abort;
 use units::old_unit;
 
 // A third chip on line 9 of the old unit: its lines are 16 to 23.
@@ -41,16 +43,20 @@ const ABOVE_BY_RANK: [u16; 22] = [
     0, 1, 8, 9, 16, 17, 18, 19, 20, 21, 22, 23, 11, 12, 13, 14, 15, 3, 4, 5, 6, 7,
 ];
 
+// What the pile tells and refuses, and then its lines by rank.
+fn check_pile<C: Controller>(rt: &impl Abort, pile: &mut C, steps: &[Step], by_rank: &[u16]) {
+    run(rt, pile, steps);
+    run_by_rank(rt, pile, by_rank);
+}
+
 #[test]
 fn a_pile_is_an_outer_part(rt: HostRuntime) {
     let mut three = Cascade::new(old_unit(), 9, I8259aController::new());
-    run(&rt, &mut three, &BELOW);
-    run_by_rank(&rt, &mut three, &BELOW_BY_RANK);
+    check_pile(&rt, &mut three, &BELOW, &BELOW_BY_RANK);
 }
 
 #[test]
 fn a_pile_is_an_inner_part(rt: HostRuntime) {
     let mut three = Cascade::new(I8259aController::new(), 2, old_unit());
-    run(&rt, &mut three, &ABOVE);
-    run_by_rank(&rt, &mut three, &ABOVE_BY_RANK);
+    check_pile(&rt, &mut three, &ABOVE, &ABOVE_BY_RANK);
 }

@@ -1,11 +1,10 @@
-// Scripts of calls on any controller, with the answers that its rules give.
-// controller_tests has the like: what makes the call would have to be a public function of a library, with a contract of its
-// own, and the two types without it are no more than its words.
+// Scripts of calls on any controller, with the replies that its rules give.
+// controller_tests has the like: `ask` in a library would be public, with a contract of its own, which is no plainer.
 use controller::{Answer, Controller, Refusal};
 use std::process::Abort;
 
-// Data and no closure, since a row of a script is a constant.
-#[derive(Clone, Copy)]
+// Data and no closure, since a row of a script is a constant, and a test that fails prints its call.
+#[derive(Clone, Copy, Debug)]
 pub(crate) enum Call {
     Width,
     Span,
@@ -21,7 +20,7 @@ pub(crate) enum Call {
     Finish(u16),
 }
 
-// What a call brought back, by the type of its result.
+// What a call brought back: a width or a span, a yes or no, a line or none, or an answer.
 #[derive(Clone, Copy, PartialEq, Eq, Debug)]
 pub(crate) enum Reply {
     Is(u32),
@@ -30,7 +29,7 @@ pub(crate) enum Reply {
     Answered(Result<Answer, Refusal>),
 }
 
-// A call and its answer.
+// A call and its reply.
 pub(crate) struct Step(pub Call, pub Reply);
 
 fn ask<C: Controller>(unit: &mut C, call: Call) -> Reply {
@@ -50,18 +49,24 @@ fn ask<C: Controller>(unit: &mut C, call: Call) -> Reply {
     }
 }
 
+// As `Step` and `run` of chip_tests, not shared: what asserts takes an `Abort`, and no library function here may have that bound.
 pub(crate) fn run<C: Controller>(rt: &impl Abort, unit: &mut C, steps: &[Step]) {
     for (place, &Step(call, expected)) in steps.iter().enumerate() {
-        assert_eq!(rt; ask(unit, call), expected, "step {place}");
+        assert_eq!(rt; ask(unit, call), expected, "step {place}, {call:?}");
+    }
+}
+
+// Every line is opened and rises.
+fn raise_all<C: Controller>(rt: &impl Abort, unit: &mut C, lines: &[u16]) {
+    for &n in lines {
+        assert_eq!(rt; unit.open(n), Ok(Answer::Done), "{n}");
+        assert_eq!(rt; unit.rise(n), Ok(Answer::Accepted), "{n}");
     }
 }
 
 // All lines are open and high at once; they are taken in the order of their ranks, each once the one before is finished.
 pub(crate) fn run_by_rank<C: Controller>(rt: &impl Abort, unit: &mut C, lines: &[u16]) {
-    for &n in lines {
-        assert_eq!(rt; unit.open(n), Ok(Answer::Done), "{n}");
-        assert_eq!(rt; unit.rise(n), Ok(Answer::Accepted), "{n}");
-    }
+    raise_all(rt, unit, lines);
     for &n in lines {
         assert_eq!(rt; unit.take(), Some(n), "{n}");
         assert_eq!(rt; unit.newest(), Some(n), "{n}");

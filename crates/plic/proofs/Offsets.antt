@@ -74,6 +74,11 @@ module _ (N : ℕ) (p q : Plic N) where
   writes-priority n v r source w =
       write-at N (SourcePriority n) source.1 p q v r w ∙ cond-false _ _ _ (ne_eqb n 0 (λ z. omega (arith, source.0)))
 
+  -- Source 0 keeps its priority.
+  pub ignores-zero : (n v : ℕ) (r : Result (Unit {0}) Refusal) → n ≡ 0 → 0 < N → Writes N p (0x000000 + 4 * n) v r q → q ≡ p
+  ignores-zero n v r none some w =
+      write-at N (SourcePriority n) (omega arith) p q v r w ∙ cond-true _ _ _ (eq-eqb n 0 none)
+
   -- An enable word that was read as v, changed in the bit of source n and written back, switches that source alone.
   pub writes-enable : (t : Plic N) (n v u : ℕ) (on : Bool) (r : Result (Unit {0}) Refusal) → Source N n
       → Reads N p (0x002000 + 4 * (n / 32)) (Ok v) q

@@ -1,5 +1,5 @@
 -- What happens to one gateway.
-use Rattle.std.specs.Prelude.{ℕ, Bool, true, false, cond, Some, None, Option, nat_lt}
+use Rattle.std.specs.Prelude.{ℕ, List, codes, Bool, true, false, cond, Some, None, Option, nat_lt}
 use Rattle.arbiter.specs.declared.key.Priority.{Priority}
 use Rattle.plic.specs.declared.gateway.Request.{Request}
 use Rattle.plic.specs.declared.gateway.Request.TheVariants.{Idle, Pending, Claimed}
@@ -63,3 +63,9 @@ requesting g = cond (is_pending g.request) g.enabled false
 -- The key under which a source contends for a claim; priority 0 never does.
 abbrev pub contender : Gateway → Option Priority
 contender g = cond (requesting g) (cond (nat_lt 0 g.priority) (Some (record { 0 = g.priority })) None) None
+
+-- The word under which a request is printed.
+abbrev pub word : Request → List ℕ
+word Idle = codes "IDLE"
+word Pending = codes "PENDING"
+word Claimed = codes "CLAIMED"

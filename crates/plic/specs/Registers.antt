@@ -1,5 +1,7 @@
 -- The register map of a PLIC with the sources below N: each register's offset, and which registers there are.
-use Rattle.std.specs.Prelude.{◌≡◌, ℕ, ◌+◌, ◌*◌, ◌<◌, min, Some, None, Option, ◌≢◌}
+use Rattle.std.specs.Prelude.{◌≡◌, ℕ, ◌+◌, ◌*◌, ◌<◌, min, Ok, Err, Result, ◌≢◌}
+use Rattle.controller.specs.declared.refusal.Refusal.{Refusal}
+use Rattle.controller.specs.declared.refusal.Refusal.TheVariants.{NoSuchAddress}
 use Rattle.plic.specs.declared.registers.Register.{Register}
 use Rattle.plic.specs.declared.registers.Register.TheVariants.{SourcePriority, PendingWord, EnableWord, Threshold, ClaimComplete}
 
@@ -22,6 +24,6 @@ There N ClaimComplete = Unit {0}
 abbrev pub Nowhere : ℕ → ℕ → Type 0
 Nowhere N offset = (g : Register) → There N g → address g ≢ offset
 
-abbrev pub Locates : ℕ → ℕ → Option Register → Type 0
-Locates N offset None = Nowhere N offset
-Locates N offset (Some g) = There N g × (address g ≡ offset)
+abbrev pub Locates : ℕ → ℕ → Result Register Refusal → Type 0
+Locates N offset (Ok g) = There N g × (address g ≡ offset)
+Locates N offset (Err e) = Nowhere N offset × (e ≡ NoSuchAddress)

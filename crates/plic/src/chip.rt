@@ -24,9 +24,8 @@ impl<const N: usize> Plic<N> {
         ensures value { result ≡ fresh N }
         ensures laws { ChipLaws N }
     {
-        let gateway = Gateway::new();
         Plic {
-            gateways: [gateway; N],
+            gateways: [Gateway::default(); N],
             threshold: 0,
         }
     }
@@ -53,18 +52,17 @@ impl<const N: usize> Plic<N> {
     pub fn gateway(&self, n: u16) -> Gateway
         ensures { result ≡ gateway_of N self.now n }
     {
-        let n = usize::from(n);
-        if n < limit::<N>() {
-            self.gateways[n]
-        } else {
-            Gateway::new()
-        }
+        self.gateways[..limit::<N>()]
+            .get(usize::from(n))
+            .copied()
+            .unwrap_or_default()
     }
 
     // Whether the context is signalled: some enabled pending source has a priority above the threshold.
     pub fn signal(&self) -> bool
         ensures { Signals N self.now result }
     {
+        // Not `is_some_and`: tried; of its closure, which indexes in a generic function, nothing is known without clauses of its own.
         matches!(self.first(), Some(n) if self.gateways[n].priority > self.threshold)
     }
 
@@ -72,7 +70,7 @@ impl<const N: usize> Plic<N> {
     pub fn read(&mut self, offset: u32) -> Result<u32, Refusal>
         ensures { Reads N self.old offset result self.new }
     {
-        let register = locate::<N>(offset).ok_or(Refusal::NoSuchAddress)?;
+        let register = locate::<N>(offset)?;
         Ok(self.read_register(register))
     }
 
@@ -80,7 +78,7 @@ impl<const N: usize> Plic<N> {
     pub fn write(&mut self, offset: u32, value: u32) -> Result<(), Refusal>
         ensures { Writes N self.old offset value result self.new }
     {
-        let register = locate::<N>(offset).ok_or(Refusal::NoSuchAddress)?;
+        let register = locate::<N>(offset)?;
         self.write_register(register, value);
         Ok(())
     }
@@ -90,13 +88,8 @@ impl<const N: usize> Plic<N> {
         ensures { Reading N self.old register result self.new }
     {
         match register {
-            Register::SourcePriority(n) => {
-                if n == 0 {
-                    0
-                } else {
-                    u32::from(self.gateways[n].priority)
-                }
-            }
+            Register::SourcePriority(0) => 0,
+            Register::SourcePriority(n) => u32::from(self.gateways[n].priority),
             Register::PendingWord(w) => words::word(&self.gateways, Gateway::is_pending, w),
             Register::EnableWord(w) => words::word(&self.gateways, Gateway::is_enabled, w),
             Register::Threshold => u32::from(self.threshold),
@@ -109,20 +102,16 @@ impl<const N: usize> Plic<N> {
         ensures { Writing N self.old register value self.new }
     {
         match register {
-            Register::SourcePriority(n) => {
-                if n != 0 {
-                    self.gateways[n].set_priority((value % 8) as u8);
-                }
-            }
-            Register::PendingWord(_) => {}
+            Register::SourcePriority(0) | Register::PendingWord(_) => {}
+            Register::SourcePriority(n) => self.gateways[n].set_priority((value % 8) as u8),
             Register::EnableWord(w) => words::enable(&mut self.gateways, w, value),
             Register::Threshold => self.threshold = (value % 8) as u8,
             Register::ClaimComplete => self.complete(value),
         }
     }
 
-    // Claims the source that comes first; the threshold holds no claim back. It answers what the register reads as, which is
-    // 0 for none, and so no Option.
+    // Claims the source that comes first; the threshold holds no claim back. It answers what the register reads as, so a number
+    // and no Option: 0 stands for none.
     fn claim(&mut self) -> u32
         ensures { Claims N self.old result self.new }
     {
@@ -169,7 +158,8 @@ impl<const N: usize> Plic<N> {
 fn leaves<const N: usize>(gateways: &[Gateway; N]) -> [Option<Priority>; N]
     ensures { Leaves N gateways.now result }
 {
-    // Not `std::array::from_fn`: its closure, in a generic function, would need two clauses of its own and a lemma over its calls.
+    // Not `std::array::from_fn`: tried; of its closure, which indexes in a generic function, nothing is known without clauses of its own,
+    // and of the array nothing without a lemma over its calls.
     let mut leaves = [None; N];
     for (n, gateway) in gateways.iter().enumerate() {
         if is_source::<N>(n) {

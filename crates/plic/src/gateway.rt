@@ -1,18 +1,19 @@
 // What a PLIC keeps of one source: its gateway record, and beside it the source's enable bit and priority.
-ghost use Rattle.std.specs.Prelude.{◌≡◌, min};
+ghost use Rattle.std.specs.Prelude.{◌≡◌, min, Some};
 ghost use Rattle.plic.specs.Chip.{is_source};
-ghost use Rattle.plic.specs.Gateways.{blank, risen, fallen, claimed, completed, with_enabled, with_priority, completable, contender, is_pending};
+ghost use Rattle.plic.specs.Gateways.{word, risen, fallen, claimed, completed, with_enabled, with_priority, completable, contender, is_pending};
 
 use arbiter::Priority;
+use std::fmt;
 
-// One more than the greatest source number that the register map has room for.
-const MOST: usize = 1024;
+// How many numbers the register map has room for, 0 among them.
+const NUMBERS: usize = 1024;
 
 // One more than the greatest source number of a PLIC with the sources below N.
 pub(crate) fn limit<const N: usize>() -> usize
     ensures { result ≡ min N 1024 }
 {
-    N.min(MOST)
+    N.min(NUMBERS)
 }
 
 // Whether n is the number of a source there.
@@ -23,14 +24,28 @@ pub(crate) fn is_source<const N: usize>(n: usize) -> bool
 }
 
 // Where a source's request stands.
-#[derive(Clone, Copy, PartialEq, Eq, Debug)]
+#[derive(Clone, Copy, PartialEq, Eq, Debug, Default)]
 pub enum Request {
+    #[default]
     Idle,
     Pending,
     Claimed,
 }
 
-#[derive(Clone, Copy, PartialEq, Eq, Debug)]
+impl fmt::Display for Request {
+    ghost output = { λ r. Some (word r) };
+
+    fn fmt<W: fmt::Write>(&self, f: &mut fmt::Formatter<W>) -> fmt::Result {
+        f.write_str(match self {
+            Request::Idle => "IDLE",
+            Request::Pending => "PENDING",
+            Request::Claimed => "CLAIMED",
+        })
+    }
+}
+
+// The default is idle, low, not enabled and of priority 0.
+#[derive(Clone, Copy, PartialEq, Eq, Debug, Default)]
 pub struct Gateway {
     pub request: Request,
     pub high: bool,
@@ -39,18 +54,6 @@ pub struct Gateway {
 }
 
 impl Gateway {
-    // Idle, low, not enabled, of priority 0.
-    pub(crate) fn new() -> Gateway
-        ensures { result ≡ blank }
-    {
-        Gateway {
-            request: Request::Idle,
-            high: false,
-            enabled: false,
-            priority: 0,
-        }
-    }
-
     // The line rises: an idle source now has a request pending.
     pub(crate) fn rise(&mut self)
         ensures { self.new ≡ risen self.old }

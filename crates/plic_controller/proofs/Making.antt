@@ -1,8 +1,8 @@
 -- The making: one priority after another is written.
-use Rattle.std.proofs.Common.{◌≡◌, ℕ, ◌+◌, ◌%◌, ◌<◌, ◌≤◌, false, ltb, List, [], length, get_or, replicate, sym, refl, ap, ◌∙◌, subst, ⊎_elim, arith}
+use Rattle.std.proofs.Common.{◌≡◌, ℕ, ◌+◌, ◌%◌, ◌<◌, ◌≤◌, false, ltb, List, [], length, get_or, replicate, sym, refl, ap, ◌∙◌, subst, ⊎_elim, arith, below_more}
 use mathlib.Core.Path.{fun_ext}
 use Rattle.std.proofs.lemmas.List.{length-set, get_or-set_same, get_or-set_other, get_or_past, get_or-replicate, length-replicate}
-use Rattle.std.proofs.lemmas.Bool.{cases_lt, cases_order, cond-true, cond_both, lt-ltb, ltb-true, false≢true}
+use Rattle.std.proofs.lemmas.Bool.{cases_lt, cond-true, cond_both, lt-ltb, ltb-true, false≢true}
 use Rattle.plic.specs.declared.chip.Plic.{Plic}
 use Rattle.plic.specs.declared.gateway.Gateway.{Gateway}
 use Rattle.plic.specs.Gateways.{blank, with_priority}
@@ -82,34 +82,21 @@ made-state ps p l m =
 pub made-chip : (ps : List ℕ) (p : Plic 64) → length ps ≡ 64 → Partly ps 64 p → Made ps p
 made-chip ps p l m = record { gateways = λ n. ap (λ (v : ℕ → Gateway). v n) (all_made ps p l m); threshold = m.threshold }
 
--- One more priority is written.
+-- One more priority is written. docs/DESIGN-PASS.md names this; no proof needs it.
 pub one_more : (ps : List ℕ) (p q : Plic 64) (n : ℕ) → 0 < n → n < 64 → Partly ps n p → SetsPriority p n (get_or ps n 0) q → Partly ps (n + 1) q
-one_more ps p q n pos lt part wr = subst (Partly ps (n + 1)) (sym (wr (omega arith, lt))) here
+one_more ps p q n pos lt part wr = subst (Partly ps (n + 1)) (sym (wr.0 (omega arith, lt))) here
   where
     here : Partly ps (n + 1) (with_gate 64 p n (with_priority (gate 64 p n) (get_or ps n 0 % 8)))
     here = record {
       table = length-set p.gateways n _ ∙ part.table;
       threshold = part.threshold;
-      done = λ k below. ⊎_elim
-          (λ e. ap (λ j. gate 64 (with_gate 64 p n (with_priority (gate 64 p n) (get_or ps n 0 % 8))) j) e
-          ∙ get_or-set_same p.gateways n _ blank (omega (arith, part.table))
+      done = below_more (λ k. gate 64 (with_gate 64 p n (with_priority (gate 64 p n) (get_or ps n 0 % 8))) k ≡ made ps k) n
+          (λ k less. get_or-set_other p.gateways n k _ blank (λ e. omega arith) ∙ part.done k less)
+          (get_or-set_same p.gateways n _ blank (omega (arith, part.table))
           ∙ ap (λ (g : Gateway). with_priority g (get_or ps n 0 % 8)) (part.rest n (omega arith))
-          ∙ sym (ap (λ x. with_priority blank x) (ap (kept_of ps) e ∙ cond-true _ _ _ (lt-ltb 0 n pos))))
-          (⊎_elim
-          (λ less. get_or-set_other p.gateways n k _ blank (λ e. omega arith) ∙ part.done k less)
-          (λ more. absurd (omega arith)))
-          (cases_order k n);
+          ∙ sym (ap (λ x. with_priority blank x) (cond-true _ _ _ (lt-ltb 0 n pos))));
       rest = λ k past. get_or-set_other p.gateways n k _ blank (λ e. omega arith) ∙ part.rest k (omega arith);
     }
-
--- Entry 0 is ignored.
-pub none_at_zero : (ps : List ℕ) (p : Plic 64) → Partly ps 0 p → Partly ps 1 p
-none_at_zero ps p part = record {
-  table = part.table;
-  threshold = part.threshold;
-  done = λ k lt. part.rest k (omega arith) ∙ sym (ap (made ps) (let z : k ≡ 0 = omega arith in z));
-  rest = λ k le. part.rest k (omega arith);
-}
 
 -- Nothing is written yet.
 pub nothing_yet : (ps : List ℕ) → Partly ps 0 (fresh 64)
@@ -123,5 +110,13 @@ nothing_yet ps = record {
     all : (k : ℕ) → gate 64 (fresh 64) k ≡ blank
     all k = ⊎_elim (λ lt. get_or-replicate 64 k blank blank lt) (λ ge. get_or_past (replicate 64 blank) k blank ge) (cases_lt k 64)
 
+-- So nothing is to be written of entry 0, which is ignored. docs/DESIGN-PASS.md names this; no proof needs it.
 pub none_yet : (ps : List ℕ) → Partly ps 1 (fresh 64)
-none_yet ps = none_at_zero ps (fresh 64) (nothing_yet ps)
+none_yet ps =
+    let part = nothing_yet ps in
+    record {
+      table = part.table;
+      threshold = part.threshold;
+      done = λ k lt. part.rest k (omega arith) ∙ sym (ap (made ps) (let z : k ≡ 0 = omega arith in z));
+      rest = λ k le. part.rest k (omega arith);
+    }

@@ -1,7 +1,7 @@
 -- The lines in service are the claimed ones, and they climb.
 use Rattle.std.specs.Prelude.{◌≡◌, ℕ, ◌-◌, ◌<◌, ◌≤◌, true, ◌&&◌, List, [], ◌∷◌, ◌==◌}
 use Rattle.std.proofs.Common.{sym, ap, ◌∙◌, ⊎_elim, arith}
-use Rattle.std.proofs.lemmas.Bool.{eqb-true, cases_lt, cases_Bool, or_cases, false≢true, lt-ltb, le-ltb}
+use Rattle.std.proofs.lemmas.Bool.{eqb-true, cases_lt, false_from_ne_true, or_cases, false≢true, lt-ltb, le-ltb}
 use Rattle.plic.specs.declared.gateway.Gateway.{Gateway}
 use Rattle.plic.specs.Gateways.{is_claimed}
 use Rattle.controller.specs.Meaning.{among, Beats, Climbs}
@@ -23,7 +23,7 @@ module _ (v : ℕ → Gateway) (fair : (n : ℕ) → Fair n (v n)) (single : Sin
       ∙ ⊎_elim
       (λ lt. ap (λ b. b && is_claimed (v n).request) (lt-ltb n 64 lt))
       (λ ge. ap (λ b. b && is_claimed (v n).request) (le-ltb n 64 ge)
-      ∙ ⊎_elim (λ sure. let w = (fair n).within (claimed-line n sure) in absurd (omega arith)) (λ nay. sym nay) (cases_Bool (is_claimed (v n).request)))
+      ∙ sym (false_from_ne_true _ (λ sure. let w = (fair n).within (claimed-line n sure) in omega arith)))
       (cases_lt n 64)
 
   pub climbs : Climbs (fixed_by (λ n. (v n).priority)) (stack_of v)

@@ -17,9 +17,11 @@ WithBit v i on r = (j : ℕ) → j < 32 → bit r j ≡ cond (j == i) on (bit v 
 abbrev pub ReadsPriority : Plic 64 → ℕ → ℕ → Plic 64 → Type 0
 ReadsPriority p n v q = Source 64 n → (v ≡ (gate 64 p n).priority) × (q ≡ p)
 
--- Source n gets a priority, of which three bits are kept.
+-- Source n gets a priority, of which three bits are kept; for number 0 nothing changes.
 abbrev pub SetsPriority : Plic 64 → ℕ → ℕ → Plic 64 → Type 0
-SetsPriority p n priority q = Source 64 n → q ≡ with_gate 64 p n (with_priority (gate 64 p n) (priority % 8))
+SetsPriority p n priority q =
+    (Source 64 n → q ≡ with_gate 64 p n (with_priority (gate 64 p n) (priority % 8)))
+    × (n ≡ 0 → q ≡ p)
 
 -- Source n is opened or shut.
 abbrev pub SetsEnabled : Plic 64 → ℕ → Bool → Plic 64 → Type 0

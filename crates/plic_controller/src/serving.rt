@@ -1,7 +1,8 @@
 // Which line is the newest in service, and the threshold that follows it. Lines in service climb in priority, so the newest
-// is the claimed line of highest priority.
+// is the claimed line of highest priority. Functions over the chip: as methods of the controller, each would speak of a controller
+// for what is its chip's alone.
 ghost use Rattle.std.specs.Prelude.{◌≡◌};
-ghost use Rattle.controller.specs.Rules.{newest, tops};
+ghost use Rattle.controller.specs.Rules.{newest};
 ghost use Rattle.plic.specs.Chip.{gate};
 ghost use Rattle.plic_controller.specs.Told.{stack_of};
 ghost use Rattle.plic_controller.specs.Sound.{Settled};
@@ -23,7 +24,7 @@ fn key(gateway: Gateway) -> Option<Priority>
 fn keys(chip: &Plic<64>) -> [Option<Priority>; 64]
     ensures { ServedKeys chip.now result }
 {
-    // Not `std::array::from_fn`: the proof of it for 64 places comes too close to the prover's limit.
+    // Not `std::array::from_fn`: tried; for 64 places its proof stops at the prover's limit.
     let mut leaves = [None; 64];
     for (n, leaf) in leaves.iter_mut().enumerate() {
         *leaf = key(chip.gateway(n as u16));
@@ -38,18 +39,11 @@ pub(crate) fn newest(chip: &Plic<64>) -> Option<u16>
     winner(&keys(chip)).map(|n| n as u16)
 }
 
-// Whether n is that line.
-pub(crate) fn is_newest(chip: &Plic<64>, n: u16) -> bool
-    ensures { Settled chip.now → result ≡ tops (stack_of (gate 64 chip.now)) n }
-{
-    newest(chip) == Some(n)
-}
-
 // Sets the threshold to the priority of the newest line, or to 0 if nothing is in service.
 pub(crate) fn follow(chip: &mut Plic<64>, newest: Option<u16>)
     ensures { Follows chip.old newest chip.new }
 {
-    // Not `map_or`: its closure would hold the chip, and what it left of the chip would be lost to the proof.
+    // Not `map_or`: tried; its closure holds the chip, and what it leaves of the chip is lost to the proof.
     let level = match newest {
         Some(n) => registers::priority(chip, n),
         None => 0,

@@ -25,8 +25,8 @@ pub struct PlicController {
 }
 
 impl PlicController {
-    // Of each priority the low three bits count, and entry 0 is ignored. All lines are shut. Whoever makes a controller learns
-    // what the rules of its calls come to.
+    // Of each priority the low three bits count; entry 0 is written too, and the chip ignores it. All lines are shut. Whoever makes a
+    // controller learns what the rules of its calls come to.
     pub fn new(priorities: [u8; 64]) -> PlicController
         ensures sound { Sound result.chip }
         ensures fixed { (meant result.chip).fixed ≡ fixed_by (kept_of priorities) }
@@ -36,9 +36,7 @@ impl PlicController {
     {
         let mut chip = Plic::new();
         for (n, priority) in priorities.iter().enumerate() {
-            if n > 0 {
-                registers::set_priority(&mut chip, n as u16, *priority);
-            }
+            registers::set_priority(&mut chip, n as u16, *priority);
         }
         PlicController { chip }
     }
@@ -92,7 +90,7 @@ impl Controller for PlicController {
     }
 
     fn there(&self, n: u16) -> bool {
-        self.chip.gateway(n).priority > 0
+        self.line(n).is_ok()
     }
 
     fn fleeting(&self, _: u16) -> bool {
@@ -113,7 +111,7 @@ impl Controller for PlicController {
         ensures chip { Sound self.old.chip → self.new.chip ≡ after result self.old.chip (risen_at self.old.chip n) }
     {
         let gateway = self.line(n)?;
-        let _ = self.chip.rise(n);
+        self.chip.rise(n)?;
         Ok(Answer::accepted_if(gateway.request == Request::Idle))
     }
 
@@ -123,7 +121,7 @@ impl Controller for PlicController {
         ensures chip { Sound self.old.chip → self.new.chip ≡ after result self.old.chip (fallen_at self.old.chip n) }
     {
         self.line(n)?;
-        let _ = self.chip.fall(n);
+        self.chip.fall(n)?;
         Ok(Answer::Noted)
     }
 
@@ -167,7 +165,7 @@ impl Controller for PlicController {
         ensures chip { Sound self.old.chip → self.new.chip ≡ after result self.old.chip (finished_at self.old.chip n) }
     {
         let gateway = self.line(n)?;
-        if !serving::is_newest(&self.chip, n) {
+        if serving::newest(&self.chip) != Some(n) {
             return Err(Refusal::NotNewest);
         }
         registers::complete(&mut self.chip, n);

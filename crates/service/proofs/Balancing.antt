@@ -1,6 +1,6 @@
 -- Each call keeps every line's balance.
-use Rattle.std.proofs.Common.{◌≡◌, ℕ, ◌+◌, Bool, true, false, cond, not, ◌&&◌, ◌||◌, eqb, List, refl, ap, ◌∙◌, ⊎_elim, arith}
-use Rattle.std.proofs.lemmas.Bool.{eqb-true, both_ways, cases_Bool}
+use Rattle.std.proofs.Common.{◌≡◌, ℕ, ◌+◌, Bool, true, false, cond, not, ◌&&◌, ◌||◌, eqb, List, refl, ap, ◌∙◌, arith}
+use Rattle.std.proofs.lemmas.Bool.{eqb-true, both_ways, false_from_ne_true}
 use Rattle.controller.specs.declared.answer.Answer.TheVariants.{Accepted, Withdrawn, Noted}
 use Rattle.controller.specs.Meaning.{in_service, among}
 use Rattle.controller.specs.Rules.{older, is_newest}
@@ -53,7 +53,7 @@ module _ (s : Snapshot) (k : Kept s) where
       (k.lawful.state.served_idle n on, on)
 
   unserved : (n : ℕ) → s.meaning.state.waiting n ≡ true → in_service s.meaning.state n ≡ false
-  unserved n waits = ⊎_elim (λ on. absurd (both_ways _ (k.lawful.state.served_idle n on) waits)) (λ off. off) (cases_Bool (in_service s.meaning.state n))
+  unserved n waits = false_from_ne_true _ (λ on. both_ways _ (k.lawful.state.served_idle n on) waits)
 
 even : {s s' : Snapshot} {c : Call} {r : Reply} → Kept s → Move s c r s' → (n : ℕ) →
     one (answers is_accepted r && may_accept n c) + one (s.meaning.state.waiting n) + one (in_service s.meaning.state n)

@@ -38,15 +38,7 @@ keep {s} k (finishes n top) = kept_put s _ _ k (finished-lawful s.meaning.fixed 
 
 pub same-fixed : {s s' : Snapshot} {c : Call} {r : Reply} → Move s c r s' → s'.meaning.fixed ≡ s.meaning.fixed
 same-fixed (turned c e) = refl
-same-fixed (rises n) = refl
-same-fixed (falls n) = refl
-same-fixed (opens n) = refl
-same-fixed (shuts n out) = refl
-same-fixed (parks n) = refl
-same-fixed (idles h) = refl
-same-fixed (starts n f) = refl
-same-fixed (closes n top) = refl
-same-fixed (finishes n top) = refl
+same-fixed _ = refl
 
 pub keeps : {s s' : Snapshot} {cs : List Call} {rs : List Reply} → Kept s → Run s cs rs s' → Kept s'
 keeps k rest = k

@@ -1,5 +1,5 @@
 -- What stays true of a dispatcher from call to call, and what a call comes to under it, one case for each outcome.
-use Rattle.std.proofs.Common.{◌≡◌, ℕ, suc, ◌+◌, ◌<◌, true, false, cond, ◌&&◌, List, [], ◌∷◌, length, Some, None, Ok, Err, Result, sym, refl, ap, ◌∙◌, subst, subst₂, arith}
+use Rattle.std.proofs.Common.{◌≡◌, ℕ, suc, ◌+◌, ◌<◌, true, false, cond, ◌&&◌, List, [], ◌∷◌, length, Some, None, Result, sym, refl, ap, ◌∙◌, subst, subst₂, arith}
 use Rattle.std.proofs.lemmas.Bool.{eqb-true}
 use Rattle.controller.specs.declared.refusal.Refusal.{Refusal}
 use Rattle.controller.specs.declared.answer.Answer.{Answer}
@@ -66,21 +66,12 @@ turning s s' c r a e g p q = placed (p ∙ ap passed_on g.0) (snapshot-same s' s
 refusing : (s s' : Snapshot) (c : Call) (r : Reply) (e : Refusal) → Refuses e s r s' → Move s c r s'
 refusing s s' c r e g = placed g.0 g.1 (turned c e)
 
-ok_same : (x y : Answer) → ◌≡◌ {A = Result Answer Refusal} (Ok x) (Ok y) → x ≡ y
-ok_same x y p = cc
-
-ok-err : (x : Answer) (e : Refusal) (P : Type 0) → ◌≡◌ {A = Result Answer Refusal} (Ok x) (Err e) → P
-ok-err x e P p = let z : ◌≡◌ {A = ℕ} 0 1 = cc in absurd (zero_one z)
-  where
-    zero_one : ◌≡◌ {A = ℕ} 0 1 → ⊥
-    zero_one z = omega arith
-
 -- What a close or a finish that is carried out writes and leaves.
 pub ends-view : (s s' : Snapshot) (r : Reply) (n : ℕ) → Ends n s r s' →
     (is_newest s.meaning.state n ≡ true) × (r ≡ End n (depth s) (cond (s.meaning.state.high n) Accepted Noted)) × (s' ≡ put s (finished s.meaning.state n) (removed s.nest))
-ends-view s s' r n (a, so e (so top (x, y)), p, q) = (top, p ∙ ap (End n (depth s)) (ok_same _ _ x), snapshot-same s' (onward s.meaning (finished s.meaning.state n)) (removed s.nest) y q)
-ends-view s s' r n (a, so e (otherwise t (x, y)), p, q) = ok-err a _ _ x
-ends-view s s' r n (a, otherwise e (x, y), p, q) = ok-err a _ _ x
+ends-view s s' r n (a, so e (so top (x, y)), p, q) = (top, cc, snapshot-same s' (onward s.meaning (finished s.meaning.state n)) (removed s.nest) y q)
+ends-view s s' r n (a, so e (otherwise t (x, y)), p, q) = cc
+ends-view s s' r n (a, otherwise e (x, y), p, q) = cc
 
 ending : (s s' : Snapshot) (c : Call) (r : Reply) (n : ℕ) → Ends n s r s' → (is_newest s.meaning.state n ≡ true → Move s c (End n (depth s) (cond (s.meaning.state.high n) Accepted Noted)) (put s (finished s.meaning.state n) (removed s.nest))) → Move s c r s'
 ending s s' c r n e f = let w = ends-view s s' r n e in placed w.1 w.2 (f w.0)

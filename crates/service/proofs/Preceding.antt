@@ -5,14 +5,14 @@ use Rattle.controller.specs.Meaning.{Fixed, in_service, among}
 use Rattle.controller.specs.Rules.{older, is_newest, tops}
 use Rattle.controller.proofs.Stacks.{among-head, beats-all, among-older, none-smaller}
 use Rattle.service.specs.Calls.{Call, Reply}
-use Rattle.service.specs.Calls.Reply.{Answered, Start, Spurious, End, Refused}
+use Rattle.service.specs.Calls.Reply.{Start}
 use Rattle.service.specs.Steps.{Snapshot}
 use Rattle.service.specs.Runs.{Run}
 use Rattle.service.specs.Runs.Run.{rest, then}
 use Rattle.service.specs.Counts.{is_end}
 use Rattle.service.specs.Law.{has_end, until_end, AtStart, EachStart, NestsAbove}
 use Rattle.service.proofs.Moves.{Kept, Move, view}
-use Rattle.service.proofs.Moves.Move.{turned, rises, falls, opens, shuts, parks, idles, starts, closes, finishes}
+use Rattle.service.proofs.Moves.Move.{starts, closes, finishes}
 use Rattle.service.proofs.Kept.{keep, same-fixed}
 
 stays-older : (s : Snapshot) (j n : ℕ) → Kept s → is_newest s.meaning.state j ≡ true → eqb n j ≡ false → in_service s.meaning.state n ≡ true → among n (older s.meaning.state.stack) ≡ true
@@ -21,63 +21,31 @@ stays-older s j n k top other on =
 
 -- A line stays in service until its END.
 stays : {s s' : Snapshot} {c : Call} {r : Reply} → Kept s → Move s c r s' → (n : ℕ) → is_end n r ≡ false → in_service s.meaning.state n ≡ true → in_service s'.meaning.state n ≡ true
-stays k (turned c e) n u h = h
-stays k (rises j) n u h = h
-stays k (falls j) n u h = h
-stays k (opens j) n u h = h
-stays k (shuts j out) n u h = h
-stays k (parks j) n u h = h
-stays k (idles b) n u h = h
 stays {s} k (starts j f) n u h = or_right (eqb n j) (in_service s.meaning.state n) h
 stays {s} k (closes j top) n u h = stays-older s j n k top u h
 stays {s} k (finishes j top) n u h = stays-older s j n k top u h
+stays k _ n u h = h
 
 -- What starts while n is in service is of smaller class than n, and in service from then on.
 above : {s s' : Snapshot} {c : Call} {r : Reply} (later : List Reply) → Kept s → Move s c r s' → (n : ℕ) → in_service s.meaning.state n ≡ true →
     AtStart (λ j _. (s.meaning.fixed.class j < s.meaning.fixed.class n) × (in_service s'.meaning.state j ≡ true)) r later
-above later k (turned c e) n h = tt
-above later k (rises j) n h = tt
-above later k (falls j) n h = tt
-above later k (opens j) n h = tt
-above later k (shuts j out) n h = tt
-above later k (parks j) n h = tt
-above later k (idles b) n h = tt
 above {s} later k (starts j f) n h = (beats-all s.meaning.fixed s.meaning.state.stack j n k.lawful.state.climbs f.ready.urgent h, among-head j s.meaning.state.stack)
-above later k (closes j top) n h = tt
-above later k (finishes j top) n h = tt
+above later k _ n h = tt
 
 -- What starts is in service.
 started : {s s' : Snapshot} {c : Call} {r : Reply} (later : List Reply) → Move s c r s' → AtStart (λ j _. in_service s'.meaning.state j ≡ true) r later
-started later (turned c e) = tt
-started later (rises j) = tt
-started later (falls j) = tt
-started later (opens j) = tt
-started later (shuts j out) = tt
-started later (parks j) = tt
-started later (idles b) = tt
 started {s} later (starts j f) = among-head j s.meaning.state.stack
-started later (closes j top) = tt
-started later (finishes j top) = tt
+started later _ = tt
 
 -- What ends is the newest.
 ends-newest : {s s' : Snapshot} {c : Call} {r : Reply} → Move s c r s' → (n : ℕ) → is_end n r ≡ true → tops s.meaning.state.stack n ≡ true
-ends-newest (turned c e) n h = absurd (false≢true h)
-ends-newest (rises j) n h = absurd (false≢true h)
-ends-newest (falls j) n h = absurd (false≢true h)
-ends-newest (opens j) n h = absurd (false≢true h)
-ends-newest (shuts j out) n h = absurd (false≢true h)
-ends-newest (parks j) n h = absurd (false≢true h)
-ends-newest (idles b) n h = absurd (false≢true h)
-ends-newest (starts j f) n h = absurd (false≢true h)
 ends-newest {s} (closes j top) n h = ap (tops s.meaning.state.stack) (eqb-true n j h) ∙ top
 ends-newest {s} (finishes j top) n h = ap (tops s.meaning.state.stack) (eqb-true n j h) ∙ top
+ends-newest _ n h = absurd (false≢true h)
 
 at-start : (P Q : ℕ → List Reply → Type 0) (r : Reply) (later after : List Reply) → ((j : ℕ) → P j later → Q j after) → AtStart P r later → AtStart Q r after
-at-start P Q (Answered a) later after f x = tt
 at-start P Q (Start n k) later after f x = f n x
-at-start P Q (Spurious k) later after f x = tt
-at-start P Q (End n k a) later after f x = tt
-at-start P Q (Refused e) later after f x = tt
+at-start P Q _ later after f x = tt
 
 -- The rest of the replies has the END that the first is not.
 later-end : (n : ℕ) (r : Reply) (rs : List Reply) → is_end n r ≡ false → has_end n (r ∷ rs) ≡ true → has_end n rs ≡ true

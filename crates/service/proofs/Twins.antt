@@ -1,6 +1,6 @@
 -- Two dispatchers whose controllers tell alike: each call brings back the same from both.
 use Rattle.std.proofs.Common.{◌≡◌, ℕ, ◌+◌, ◌<◌, ◌≤◌, Bool, true, false, cond, not, ◌&&◌, ◌||◌, eqb, List, [], ◌∷◌, length, Some, None, Option, Result, sym, refl, ap, ◌∙◌, subst, ap₂, subst₂, ⊎_elim, arith}
-use Rattle.std.proofs.lemmas.Bool.{false≢true, true≢false, both_ways, cases_Bool, cases_lt}
+use Rattle.std.proofs.lemmas.Bool.{false≢true, true≢false, both_ways, false_from_ne_true, cases_lt}
 use Rattle.controller.specs.declared.refusal.Refusal.{Refusal}
 use Rattle.controller.specs.declared.answer.Answer.{Answer}
 use Rattle.controller.specs.declared.answer.Answer.TheVariants.{Accepted, Withdrawn, Noted}
@@ -115,7 +115,7 @@ module _ (s t : Snapshot) (k : Kept s) (l : Kept t) (w : Twin s t) where
       let u : s.meaning.fixed.rank n ≤ s.meaning.fixed.rank m = f.first m r in
       let v : t.meaning.fixed.rank m ≤ t.meaning.fixed.rank n = g.first n (ready-too n f.ready) in
       ⊎_elim
-      (λ h. let lt : t.meaning.fixed.rank n < t.meaning.fixed.rank m = w.ranks n m f.ready.line r.line h in let z : ⊥ = omega arith in absurd z)
+      (λ h. let lt : t.meaning.fixed.rank n < t.meaning.fixed.rank m = w.ranks n m f.ready.line r.line h in absurd (omega arith))
       (λ h. k.lawful.fixed.own n m f.ready.line r.line (omega arith))
       (cases_lt (s.meaning.fixed.rank n) (s.meaning.fixed.rank m))
 
@@ -176,10 +176,7 @@ module _ (s t : Snapshot) (k : Kept s) (l : Kept t) (w : Twin s t) where
       (λ x y. took-both x.0 y.0 back x.1 x.2 y.1 y.2)
 
 low : (s : Snapshot) → Fresh s → (n : ℕ) → s.meaning.fixed.line n ≡ true → s.meaning.state.high n ≡ false
-low s f n h = ⊎_elim
-    (λ b. absurd (both_ways _ (f.quiet.waits n h) (f.lawful.state.high_waits n h b (ap (among n) f.quiet.serves))))
-    (λ b. b)
-    (cases_Bool (s.meaning.state.high n))
+low s f n h = false_from_ne_true _ (λ b. both_ways _ (f.quiet.waits n h) (f.lawful.state.high_waits n h b (ap (among n) f.quiet.serves)))
 
 pub fresh-twin : (s t : Snapshot) → Fresh s → Fresh t → Alike s.meaning t.meaning → Twin s t
 fresh-twin s t f g a = record {

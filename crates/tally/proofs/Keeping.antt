@@ -8,7 +8,7 @@ use Rattle.service.specs.Runs.{Run, Fresh}
 use Rattle.service.specs.Runs.Run.{rest, then}
 use Rattle.service.specs.Counts.{one, count, is_accepted, is_withdrawn, answers, may_accept, may_withdraw, is_end, accepted, withdrawn, ended}
 use Rattle.service.proofs.Moves.{Kept, Move, view}
-use Rattle.service.proofs.Moves.Move.{turned, rises, falls, opens, shuts, parks, idles, starts, closes, finishes}
+use Rattle.service.proofs.Moves.Move.{turned, rises, falls, closes, finishes}
 use Rattle.service.proofs.Kept.{keep, fresh_kept}
 use Rattle.service.proofs.Service.{service-law}
 use Rattle.tally.specs.declared.Tally.{Tally}
@@ -43,37 +43,25 @@ accepts : (n : ℕ) (s s' : Snapshot) (c : Call) (r : Reply) → Move s c r s' �
 accepts n s s' c r (turned _ e) = noted (is_noted n c) false
 accepts n s s' c r (rises j) = noted (eqb n j) _
 accepts n s s' c r (falls j) = no-acceptance (eqb n j) _
-accepts n s s' c r (opens j) = refl
-accepts n s s' c r (shuts j out) = refl
-accepts n s s' c r (parks j) = refl
-accepts n s s' c r (idles h) = refl
-accepts n s s' c r (starts j f) = refl
 accepts n s s' c r (closes j top) = noted (eqb n j) _
 accepts n s s' c r (finishes j top) = noted (eqb n j) _
+accepts n s s' c r _ = refl
 
 withdraws : (n : ℕ) (s s' : Snapshot) (c : Call) (r : Reply) → Move s c r s' → cond (is_noted n c) (answers is_withdrawn r) false ≡ (answers is_withdrawn r && may_withdraw n c)
 withdraws n s s' c r (turned _ e) = noted (is_noted n c) false
 withdraws n s s' c r (rises j) = no-withdrawal (eqb n j) _
 withdraws n s s' c r (falls j) = noted (eqb n j) _
-withdraws n s s' c r (opens j) = refl
-withdraws n s s' c r (shuts j out) = refl
-withdraws n s s' c r (parks j) = refl
-withdraws n s s' c r (idles h) = refl
-withdraws n s s' c r (starts j f) = refl
 withdraws n s s' c r (closes j top) = no-withdrawal (eqb n j) _
 withdraws n s s' c r (finishes j top) = no-withdrawal (eqb n j) _
+withdraws n s s' c r _ = refl
 
 ending : (n : ℕ) (s s' : Snapshot) (c : Call) (r : Reply) → Move s c r s' → cond (is_noted n c) (ends r) false ≡ is_end n r
 ending n s s' c r (turned _ e) = noted (is_noted n c) false
 ending n s s' c r (rises j) = noted (eqb n j) false
 ending n s s' c r (falls j) = noted (eqb n j) false
-ending n s s' c r (opens j) = refl
-ending n s s' c r (shuts j out) = refl
-ending n s s' c r (parks j) = refl
-ending n s s' c r (idles h) = refl
-ending n s s' c r (starts j f) = refl
 ending n s s' c r (closes j top) = noted (eqb n j) true
 ending n s s' c r (finishes j top) = noted (eqb n j) true
+ending n s s' c r _ = refl
 
 -- One count f of a tally: a reply of which a holds is one more, and a noted one is what the law's test counts.
 module _ (n : ℕ) (f : Tally → ℕ) (a : Reply → Bool) (test : Call → Reply → Bool)

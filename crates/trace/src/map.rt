@@ -19,8 +19,8 @@ pub(crate) const FINISH: u8 = 5;
 // How many bits of a map name an act.
 pub const ACT_BITS: u8 = 6;
 
-// Whether bit i of a map is set. The 8259A asks the same of its levels: shared, it would be a public function that requires
-// something, and there is none.
+// Whether bit i of a map is set. Both chips ask the like of their own numbers: the three crates share none that knows of bits, and each
+// is one expression.
 pub(crate) fn has(map: u8, i: u8) -> bool
     requires { i < 8 }
     ensures { result ≡ bit map i }

@@ -1,5 +1,4 @@
 // The acts of a record in bit order, and as they are printed.
-use std::alloc::Global;
 use std::process::Abort;
 use std::test::Fail;
 use trace::{Act, Record};
@@ -25,19 +24,17 @@ fn acts_come_in_bit_order(rt: HostRuntime) {
     );
 }
 
-fn check_printed(rt: &impl Abort, heap: Global, act: Act, text: &str) -> Result<(), Fail> {
-    let printed = format!(in heap; "{act}")?;
-    assert_eq!(rt; printed.as_str(), text);
-    Ok(())
-}
-
 #[test]
 fn acts_are_printed(rt: HostRuntime) -> Result<(), Fail> {
     let heap = rt.alloc();
-    check_printed(&rt, heap, Act::Rise(5), "rise 5")?;
-    check_printed(&rt, heap, Act::Fall(0), "fall 0")?;
-    check_printed(&rt, heap, Act::Open(63), "open 63")?;
-    check_printed(&rt, heap, Act::Shut(255), "shut 255")?;
-    check_printed(&rt, heap, Act::Take, "take")?;
-    check_printed(&rt, heap, Act::Finish, "finish")
+    assert_eq!(rt; format!(in heap; "{}", Act::Rise(5))?.as_str(), "rise 5");
+    assert_eq!(rt; format!(in heap; "{}", Act::Fall(0))?.as_str(), "fall 0");
+    assert_eq!(rt; format!(in heap; "{}", Act::Open(63))?.as_str(), "open 63");
+    assert_eq!(rt;
+        format!(in heap; "{}", Act::Shut(255))?.as_str(),
+        "shut 255"
+    );
+    assert_eq!(rt; format!(in heap; "{}", Act::Take)?.as_str(), "take");
+    assert_eq!(rt; format!(in heap; "{}", Act::Finish)?.as_str(), "finish");
+    Ok(())
 }

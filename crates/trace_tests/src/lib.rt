@@ -1,4 +1,5 @@
-// The format of traces, as rules and tables that the tests hold the crate against.
+// Traces as tests run them: every map, the refusals of the writer, a trace cut and spoilt anywhere, the acts in order and as
+// they are printed. The format is written down once more, as rules and tables that the crate is held against.
 #![tactic(auto)]
 
 #[cfg(test)]

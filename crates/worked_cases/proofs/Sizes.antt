@@ -1,19 +1,13 @@
 -- Two controllers that could be hung together but for their sizes: these alone decide.
-use Rattle.std.proofs.Common.{◌≡◌, ℕ, ◌^◌, Bool, true, false, ◌&&◌, ◌||◌, leb, Ok, refl, ◌∙◌, ap₂}
-use Rattle.std.proofs.lemmas.Bool.{both_ways, or_from}
+use Rattle.std.proofs.Common.{◌≡◌, ℕ, ◌^◌, true, false, ◌&&◌, ◌||◌, leb, Ok, refl, ◌∙◌, ap₂}
+use Rattle.std.proofs.lemmas.Bool.{or_from}
 use Rattle.controller.specs.declared.refusal.Refusal.TheVariants.{TooLarge}
 use Rattle.controller.specs.Meaning.{Meaning, most_width, most_span}
-use Rattle.controller.specs.Rules.{Asks}
 use Rattle.controller.specs.Rules.Asks.{so, otherwise}
-use Rattle.controller.proofs.Asking.{asks-yes}
+use Rattle.controller.proofs.Asking.{asks-yes, asks-no}
 use Rattle.cascade.specs.Fit.{is_serving, is_small, Checks}
 use Rattle.worked_cases.specs.Exactly.{Only, RefusedWith}
 use Rattle.worked_cases.specs.States.{Together}
-
--- The outcome of a question that is answered no.
-asks-no : (P Q : Type 0) (x : Bool) → x ≡ false → Asks x P Q → Q
-asks-no P Q x e (so e' p) = absurd (both_ways x e e')
-asks-no P Q x e (otherwise e' q) = q
 
 module _ (a b : Meaning) (k width span : ℕ) (h : Together a k b width span) where
   -- Nothing is in service in either.

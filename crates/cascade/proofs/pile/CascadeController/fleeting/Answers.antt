@@ -2,10 +2,10 @@ use Rattle.cascade.proofs.Passing.{neither-fleeting, outer-fleeting, inner-fleet
 use Rattle.cascade.proofs.pile.CascadeController.fleeting.Goals as goal
 
 pub returns-in-Err : goal.returns-in-Err
-returns-in-Err g c sound = neither-fleeting g.O.Controller g.I.Controller g.met.O.Controller.lawful g.met.I.Controller.lawful c.args.self.now sound c.args.n c.in-Err.field-0 (c.in-Err.ensures sound)
+returns-in-Err g c sound = neither-fleeting _ _ g.met.O.Controller.lawful g.met.I.Controller.lawful _ sound _ c.in-Err.field-0 (c.in-Err.ensures sound)
 
 pub returns-in-Ok-Outer : goal.returns-in-Ok-Outer
-returns-in-Ok-Outer g c sound = outer-fleeting g.O.Controller g.I.Controller g.met.O.Controller.lawful g.met.I.Controller.lawful c.args.self.now sound c.args.n c.fleeting.result (let told = c.part.ensures sound in cc) c.fleeting.ensures
+returns-in-Ok-Outer g c sound = outer-fleeting _ _ g.met.O.Controller.lawful g.met.I.Controller.lawful _ sound _ c.fleeting.result (let told = c.part.ensures sound in cc) c.fleeting.ensures
 
 pub returns-in-Ok-Inner : goal.returns-in-Ok-Inner
-returns-in-Ok-Inner g c sound = inner-fleeting g.O.Controller g.I.Controller g.met.O.Controller.lawful g.met.I.Controller.lawful c.args.self.now sound c.args.n c.fleeting-in-Ok-Inner.result c.in-Ok-Inner.field-0-0 c.in-Ok-Inner.m (let told = c.part.ensures sound in cc) c.fleeting-in-Ok-Inner.ensures
+returns-in-Ok-Inner g c sound = inner-fleeting _ _ g.met.O.Controller.lawful g.met.I.Controller.lawful _ sound _ c.fleeting-in-Ok-Inner.result c.in-Ok-Inner.field-0-0 c.in-Ok-Inner.m (let told = c.part.ensures sound in cc) c.fleeting-in-Ok-Inner.ensures

@@ -2,14 +2,14 @@ use Rattle.std.proofs.Common.{refl, rules}
 use Rattle.controller.specs.Rules.{Opens, otherwise}
 use Rattle.controller.proofs.Refused.{opens-same}
 use Rattle.cascade.proofs.Calls.{opens-outer, opens-inner}
-use Rattle.cascade.proofs.Passing.{call-neither, call-outer, call-inner}
+use Rattle.cascade.proofs.Passing.{call-neither, call-outer, call-inside}
 use Rattle.cascade.proofs.pile.CascadeController.open.Goals as goal
 
 pub returns-in_err-part-clause-rule : goal.returns-in_err-part-clause-rule
-returns-in_err-part-clause-rule g c sound = call-neither g.O.Controller g.I.Controller g.met.O.Controller.lawful g.met.I.Controller.lawful c.args.self.now sound c.args.n Opens (λ m n e. otherwise e (refl, refl)) c.in_err-part.field-0.0 (c.in_err-part.ensures sound) c.from_residual.result (search rules)
+returns-in_err-part-clause-rule g c sound = call-neither _ _ g.met.O.Controller.lawful g.met.I.Controller.lawful _ sound _ Opens (λ m n e. otherwise e (refl, refl)) c.in_err-part.field-0.0 (c.in_err-part.ensures sound) c.from_residual.result (search rules)
 
 pub returns-in-Outer-clause-rule : goal.returns-in-Outer-clause-rule
-returns-in-Outer-clause-rule g c sound = call-outer g.O.Controller g.I.Controller g.met.O.Controller.lawful g.met.I.Controller.lawful c.args.self.now sound c.args.n Opens opens-outer (let told = c.in_ok-part.ensures sound in cc) c.open.result c.open.new.self c.open.ensures.rule
+returns-in-Outer-clause-rule g c sound = call-outer _ _ g.met.O.Controller.lawful g.met.I.Controller.lawful _ sound _ Opens opens-outer (let told = c.in_ok-part.ensures sound in cc) c.open.result c.open.new.self c.open.ensures.rule
 
 pub returns-in-Inner-clause-rule : goal.returns-in-Inner-clause-rule
-returns-in-Inner-clause-rule g c sound = call-inner g.O.Controller g.I.Controller g.met.O.Controller.lawful g.met.I.Controller.lawful c.args.self.now sound c.args.n Opens opens-inner opens-same c.in-Inner.k c.in-Inner.m (let told = c.in_ok-part.ensures sound in cc) c.inside.result c.inside.new.self c.inside.ensures.same (search rules) c.inside.ensures.informs
+returns-in-Inner-clause-rule g c sound = call-inside _ _ g.met.O.Controller.lawful g.met.I.Controller.lawful _ sound _ Opens opens-inner opens-same c.in-Inner.k c.in-Inner.m (let told = c.in_ok-part.ensures sound in cc) c.inside.result c.inside.new.self c.inside.ensures.same (search rules) c.inside.ensures.informs

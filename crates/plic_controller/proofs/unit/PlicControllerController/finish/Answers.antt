@@ -1,5 +1,5 @@
-use Rattle.std.proofs.Common.{◌≡◌, sym, rules}
-use Rattle.controller.specs.Rules.{newest}
+use Rattle.std.proofs.Common.{◌≡◌, true, rules}
+use Rattle.controller.specs.Rules.{newest, tops}
 use Rattle.plic.specs.Chip.{gate}
 use Rattle.plic_controller.specs.Told.{stack_of}
 use Rattle.plic_controller.specs.Sound.{Sound}
@@ -15,7 +15,7 @@ returns c =
     let q = c.follow.new.chip in
     let x = c.in_ok-gateway.gateway in
     let lined = c.in_ok-gateway.ensures in
-    let top = λ (sound : Sound p). sym (c.if-not-is_newest.ensures sound.settled) in
+    let top : (sound : Sound p) → tops (stack_of (gate 64 p)) c.args.n ≡ true = λ sound. let is = c.newest.ensures sound.settled in search rules in
     let leaves : (sound : Sound p) → q ≡ finished_at p c.args.n = λ sound.
     let is = c.newest-newest.ensures (settled-after p c.args.n sound x lined (top sound) q₁ c.complete.ensures) in
     let follows : Follows q₁ (newest (stack_of (gate 64 q₁))) q = search rules in
