@@ -1,7 +1,5 @@
 // The whole way on any unit: line, controller, dispatcher, handler, record; and at the end the balance of each line.
-ghost use Rattle.std.specs.Prelude.{◌≡◌, true};
-ghost use Rattle.service.specs.Nests.{held};
-ghost use Rattle.dispatch.specs.Snapshots.{snapshot};
+ghost use Rattle.dispatch.specs.Snapshots.{Holds};
 
 use crate::report;
 use crate::unit::Devices;
@@ -105,9 +103,9 @@ fn park_started<C: Controller>(rt: &HostRuntime, unit: &mut Dispatcher<C>) -> io
 }
 
 // Closes, or parks what was not closed. What is required of the claim here and below no public function may require, so
-// the crates cases and dispatch_tests have theirs.
+// cases, long_runs and dispatch_tests have theirs.
 fn close_or_park<C: Controller>(unit: &mut Dispatcher<C>, claim: Claim) -> Result<Ended, Refusal>
-    requires { held claim.line (snapshot C.Controller unit.old).nest ≡ true }
+    requires { Holds C.Controller unit.old claim }
 {
     match unit.close(claim) {
         Ok(ended) => Ok(ended),
@@ -120,15 +118,7 @@ fn close_or_park<C: Controller>(unit: &mut Dispatcher<C>, claim: Claim) -> Resul
 
 // A claim that is held is parked without fail.
 fn park<C: Controller>(unit: &mut Dispatcher<C>, claim: Claim)
-    requires { held claim.line (snapshot C.Controller unit.old).nest ≡ true }
+    requires { Holds C.Controller unit.old claim }
 {
-    match unit.park(claim) {
-        Ok(()) => {}
-        Err(
-            Refused {
-                why: _,
-                claim: _back,
-            },
-        ) => unreachable(),
-    }
+    unit.park(claim).unwrap();
 }

@@ -1,20 +1,22 @@
 // The incident: a line falls between the signal and the acknowledge. Told through both chips, through the units as
-// controllers, and the whole way through a dispatcher above each.
+// controllers, the whole way through a dispatcher above each, and as a device trace that is replayed on the old and the new unit.
 #![tactic(auto)]
 
 mod dispatched;
 mod new_chip;
 mod old_chip;
 mod report;
+mod traced;
 mod unit;
 
 use i8259a_controller::I8259aController;
 use plic_controller::PlicController;
+use replay::LogRecord;
 use std::io;
 use unit::Devices;
 use units::old_unit;
 
-// On a single chip the probe is on line 3; on the old unit it is the slave's line 1.
+// On a single chip the probe is on line 3; on the old unit it is the slave's line 1, and in the trace it is line 9 of either unit.
 const ONE_CHIP: Devices = Devices {
     stirrer: 5,
     probe: 3,
@@ -25,13 +27,24 @@ const TWO_CHIPS: Devices = Devices {
     probe: 9,
 };
 
+// What a log holds before a replay writes it.
+const UNWRITTEN: LogRecord = LogRecord::Spurious { depth: 0 };
+
+// How many records a log has room for.
+const MOST_RECORDS: usize = 4_096;
+
+// A byte that is no lawful map.
+const NO_MAP: u8 = 0x40;
+
 fn main(rt: HostRuntime) -> io::Result<()> {
     println!(rt; "8259A")?;
     old_chip::tell(&rt)?;
     println!(rt; "PLIC")?;
     new_chip::tell(&rt)?;
     through_controllers(&rt)?;
-    through_dispatchers(&rt)
+    through_dispatchers(&rt)?;
+    let trace = traced::read(&rt)?;
+    through_traces(&rt, trace)
 }
 
 fn through_controllers(rt: &HostRuntime) -> io::Result<()> {
@@ -52,10 +65,32 @@ fn through_dispatchers(rt: &HostRuntime) -> io::Result<()> {
     dispatched::tell(rt, old_unit(), TWO_CHIPS)
 }
 
-// The probe's source 3 is more urgent than the stirrer's source 5. This program's own data, and so not shared.
+// The trace whole on both units; and on the old unit without its last byte, with a byte after it that is no map, and into a log
+// that is too short for it.
+fn through_traces(rt: &HostRuntime, mut trace: Vec<u8>) -> io::Result<()> {
+    let mut log = [UNWRITTEN; MOST_RECORDS];
+    println!(rt; "The trace")?;
+    traced::show(rt, trace.as_slice())?;
+    println!(rt; "The trace replayed on the old unit")?;
+    traced::tell(rt, old_unit(), trace.as_slice(), &mut log)?;
+    println!(rt; "The trace replayed on the new unit")?;
+    let new_unit = PlicController::new(priorities());
+    traced::tell(rt, new_unit, trace.as_slice(), &mut log)?;
+    println!(rt; "The trace on the old unit, with a log of two records")?;
+    traced::tell(rt, old_unit(), trace.as_slice(), &mut [UNWRITTEN; 2])?;
+    println!(rt; "The trace without its last byte, on the old unit")?;
+    let cut = &trace[..trace.len().saturating_sub(1)];
+    traced::tell(rt, old_unit(), cut, &mut log)?;
+    println!(rt; "The trace with a bad map after it, on the old unit")?;
+    trace.push(NO_MAP)?;
+    traced::tell(rt, old_unit(), trace.as_slice(), &mut log)
+}
+
+// The probe's sources 3 and 9 are more urgent than the stirrer's source 5.
 fn priorities() -> [u8; 64] {
     let mut priorities = [0; 64];
     priorities[3] = 4;
     priorities[5] = 2;
+    priorities[9] = 4;
     priorities
 }

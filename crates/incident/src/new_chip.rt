@@ -1,11 +1,11 @@
 // On a PLIC a request that is pending stays: the claim still answers the probe's source.
-use crate::report;
+use crate::{ONE_CHIP, report};
 use plic::Plic;
 use std::io;
 
-const STIRRER: u16 = 5;
+const STIRRER: u16 = ONE_CHIP.stirrer;
 
-const PROBE: u16 = 3;
+const PROBE: u16 = ONE_CHIP.probe;
 
 // The offsets of the chip's registers, written out as a driver does.
 const ENABLE: u32 = 0x002000;

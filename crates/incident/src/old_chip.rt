@@ -1,11 +1,11 @@
 // On an 8259A the acknowledge names level 7, though nothing new is in service.
-use crate::report;
+use crate::{ONE_CHIP, report};
 use i8259a::{I8259a, set_up};
 use std::io;
 
-const STIRRER: u16 = 5;
+const STIRRER: u16 = ONE_CHIP.stirrer;
 
-const PROBE: u16 = 3;
+const PROBE: u16 = ONE_CHIP.probe;
 
 pub(crate) fn tell(rt: &HostRuntime) -> io::Result<()> {
     let mut chip = I8259a::new();

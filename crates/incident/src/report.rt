@@ -1,5 +1,5 @@
 // One printed line for each thing done, with what was answered.
-use controller::Refusal;
+use controller::{Numbered, Refusal};
 use std::{fmt, io};
 use tally::Tally;
 
@@ -10,10 +10,7 @@ pub(crate) fn answer<W: fmt::Display + Drop, T: fmt::Display + Drop>(
 ) -> io::Result<()> {
     match answer {
         Ok(value) => println!(rt; "  {what}: {value}"),
-        Err(refusal) => {
-            let number = refusal.number();
-            println!(rt; "  {what}: refused ({number}), {refusal}")
-        }
+        Err(why) => println!(rt; "  {what}: {}", Numbered(why)),
     }
 }
 
@@ -43,6 +40,7 @@ pub(crate) fn line(rt: &HostRuntime, what: &str, answer: Option<u16>) -> io::Res
     }
 }
 
+// START and SPURIOUS by hand, as in `cases`: what a take brings back holds the claim, which is spent before anything is printed.
 pub(crate) fn start(rt: &HostRuntime, line: u16, depth: usize) -> io::Result<()> {
     println!(rt; "  take: START {line}, depth {depth}")
 }

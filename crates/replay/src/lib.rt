@@ -8,5 +8,5 @@ mod printed;
 mod replaying;
 
 pub use log::{LogRecord, Replayed};
-pub use printed::{record_line, summary_line};
+pub use printed::{record_line, stop_line, summary_line};
 pub use replaying::{replay, replay_both};

@@ -1,5 +1,7 @@
 // Where a replay stops: at the end, at a cut, at a bad map, and where the log is full.
-use crate::bench::{FILL, TRACE, check_stop, on_old_unit, places, stop};
+ghost use Rattle.std.specs.Prelude.{◌<◌};
+
+use crate::runs::{Run, TRACE, places, stop};
 use controller::Refusal;
 use replay::Replayed;
 use std::process::Abort;
@@ -20,22 +22,16 @@ fn by_log_length() -> [Replayed; 9] {
     ]
 }
 
-fn check_room(rt: &impl Abort, length: usize, expected: Replayed) {
-    let mut log = [FILL; 8];
-    assert!(rt; length <= log.len());
-    let replayed = on_old_unit(&TRACE, &mut log[..length]);
-    check_stop(rt, replayed, &log, expected, "log of", length);
-}
-
 #[test]
 fn logs_of_every_length(rt: HostRuntime) {
-    for (length, expected) in by_log_length().into_iter().enumerate() {
-        check_room(&rt, length, expected);
+    for (room, expected) in by_log_length().into_iter().enumerate() {
+        Run::<8>::with_room(&TRACE, room).check_stop(&rt, expected, "log of", room);
     }
 }
 
-// The last place that a trace of this many bytes reaches whole; a record that is cut there is the fault.
-fn reached(length: usize) -> Option<Replayed> {
+// What a replay of the trace cut to that many bytes answers. It does the records that end within them; where bytes of the
+// next one are left, that record is cut.
+fn cut_to(length: usize) -> Option<Replayed> {
     let place = places()
         .into_iter()
         .take_while(|place| place.bytes <= length)
@@ -50,33 +46,31 @@ fn reached(length: usize) -> Option<Replayed> {
 #[test]
 fn cuts_at_every_length(rt: HostRuntime) {
     for length in 0..=TRACE.len() {
-        let mut log = [FILL; 8];
-        let replayed = on_old_unit(&TRACE[..length], &mut log);
-        let expected = reached(length).expect(&rt, "the first place is at byte 0");
-        check_stop(&rt, replayed, &log, expected, "cut to", length);
+        let expected = cut_to(length).expect(&rt, "the first place is at byte 0");
+        Run::<8>::new(&TRACE[..length]).check_stop(&rt, expected, "cut to", length);
     }
 }
 
-fn check_bad_map(rt: &impl Abort, place: Replayed, map: u8) {
-    let mut trace = TRACE;
-    assert!(rt; place.bytes < trace.len());
-    trace[place.bytes] = map;
-    let mut log = [FILL; 8];
-    let replayed = on_old_unit(&trace, &mut log);
+fn check_bad_maps(rt: &impl Abort, place: Replayed)
+    requires { place.bytes < 18 }
+{
     let expected = Replayed {
         fault: Some(Refusal::UnlawfulMap),
         ..place
     };
-    check_stop(rt, replayed, &log, expected, "map", usize::from(map));
+    for map in [0x00, 0x40, 0x80, 0xff] {
+        let mut trace = TRACE;
+        trace[place.bytes] = map;
+        Run::<8>::new(&trace).check_stop(rt, expected, "map", usize::from(map));
+    }
 }
 
 #[test]
 fn bad_maps_in_every_place(rt: HostRuntime) {
     for place in places() {
+        // At the end no map stands.
         if place.bytes < TRACE.len() {
-            for map in [0x00, 0x40, 0x80, 0xff] {
-                check_bad_map(&rt, place, map);
-            }
+            check_bad_maps(&rt, place);
         }
     }
 }

@@ -1,29 +1,19 @@
 // The printed lines of a log, and of what the replay answered.
-use crate::bench::{FILL, TRACE, on_old_unit};
+use crate::runs::{LOG, Run, TRACE};
 use controller::Refusal;
-use replay::{LogRecord, record_line, summary_line};
-use std::alloc::Global;
-use std::process::Abort;
+use replay::{LogRecord, record_line, stop_line, summary_line};
 use std::test::Fail;
-
-const LINES: [&str; 6] = [
-    "S 7 1 0", "X - 1 0", "T 2 1 1", "S 9 2 0", "E 9 2 0", "E 7 1 0",
-];
-
-fn check_line(rt: &impl Abort, heap: Global, record: &LogRecord, line: &str) -> Result<(), Fail> {
-    let printed = record_line(heap, record)?;
-    assert_eq!(rt; printed.as_str(), line);
-    Ok(())
-}
 
 #[test]
 fn lines_of_a_log(rt: HostRuntime) -> Result<(), Fail> {
-    let mut log = [FILL; 8];
-    let replayed = on_old_unit(&TRACE, &mut log);
-    for (record, line) in log.iter().zip(LINES.iter()) {
-        check_line(&rt, rt.alloc(), record, line)?;
+    let run = Run::<8>::new(&TRACE);
+    for (record, (_, line)) in run.log.iter().zip(LOG) {
+        assert_eq!(rt; record_line(rt.alloc(), record)?.as_str(), line);
     }
-    assert_eq!(rt; summary_line(rt.alloc(), &replayed)?.as_str(), "F 6 18 0");
+    assert_eq!(rt;
+        summary_line(rt.alloc(), &run.replayed)?.as_str(),
+        "F 6 18 0"
+    );
     Ok(())
 }
 
@@ -34,8 +24,33 @@ fn lines_of_refusals(rt: HostRuntime) -> Result<(), Fail> {
         depth: 0,
         why: Refusal::NotNewest,
     };
-    check_line(&rt, rt.alloc(), &empty, "T - 0 3")?;
-    let faulty = on_old_unit(&[0x40], &mut []);
+    assert_eq!(rt; record_line(rt.alloc(), &empty)?.as_str(), "T - 0 3");
+    let faulty = Run::<0>::new(&[0x40]).replayed;
     assert_eq!(rt; summary_line(rt.alloc(), &faulty)?.as_str(), "F 0 0 6");
+    Ok(())
+}
+
+#[test]
+fn why_a_replay_stopped(rt: HostRuntime) -> Result<(), Fail> {
+    let whole = Run::<8>::new(&TRACE).replayed;
+    assert_eq!(rt;
+        stop_line(rt.alloc(), &whole)?.as_str(),
+        "the whole trace was done"
+    );
+    let bad = Run::<8>::new(&[0x04, 7, 0x40]).replayed;
+    assert_eq!(rt;
+        stop_line(rt.alloc(), &bad)?.as_str(),
+        "the trace is bad at byte 2"
+    );
+    let cut = Run::<8>::new(&[0x04, 7, 0x01]).replayed;
+    assert_eq!(rt;
+        stop_line(rt.alloc(), &cut)?.as_str(),
+        "the trace is cut at byte 2"
+    );
+    let full = Run::<0>::new(&TRACE).replayed;
+    assert_eq!(rt;
+        stop_line(rt.alloc(), &full)?.as_str(),
+        "the log is full before byte 0"
+    );
     Ok(())
 }

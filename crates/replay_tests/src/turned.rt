@@ -1,9 +1,9 @@
 // Acts that are refused, and a record with all six acts, done in bit order.
-use crate::bench::{FILL, on_old_unit, stop};
+use crate::runs::{FILL, Run, stop};
 use controller::Refusal;
 use replay::LogRecord;
 
-const fn turned(line: Option<u16>, depth: usize, why: Refusal) -> LogRecord {
+fn turned(line: Option<u16>, depth: usize, why: Refusal) -> LogRecord {
     LogRecord::Turned { line, depth, why }
 }
 
@@ -11,9 +11,8 @@ const fn turned(line: Option<u16>, depth: usize, why: Refusal) -> LogRecord {
 #[test]
 fn refused_acts(rt: HostRuntime) {
     let trace = [0x0f, 2, 2, 2, 2, 0x20, 0x05, 3, 3, 0x10, 0x08, 3];
-    let mut log = [FILL; 9];
-    let replayed = on_old_unit(&trace, &mut log);
-    assert_eq!(rt; replayed, stop(7, trace.len(), None));
+    let run = Run::<9>::new(&trace);
+    assert_eq!(rt; run.replayed, stop(7, trace.len(), None));
     let no_line = turned(Some(2), 0, Refusal::NotALine);
     let expected = [
         no_line,
@@ -26,17 +25,16 @@ fn refused_acts(rt: HostRuntime) {
         FILL,
         FILL,
     ];
-    assert_eq!(rt; log, expected);
+    assert_eq!(rt; run.log, expected);
 }
 
 // rise 4, fall 1, open 4, shut 6, take, finish: the take comes after the open, and the finish after the take.
 #[test]
 fn six_acts_in_bit_order(rt: HostRuntime) {
     let trace = [0x3f, 4, 1, 4, 6];
-    let mut log = [FILL; 6];
-    let replayed = on_old_unit(&trace, &mut log);
-    assert_eq!(rt; replayed, stop(2, 5, None));
+    let run = Run::<6>::new(&trace);
+    assert_eq!(rt; run.replayed, stop(2, 5, None));
     let start = LogRecord::Start { line: 4, depth: 1 };
     let end = LogRecord::End { line: 4, depth: 1 };
-    assert_eq!(rt; log, [start, end, FILL, FILL, FILL, FILL]);
+    assert_eq!(rt; run.log, [start, end, FILL, FILL, FILL, FILL]);
 }

@@ -1,25 +1,34 @@
-// The incident as a device trace: read from standard input, shown record by record, and replayed on both kinds of unit.
-use controller::{Controller, Refusal};
+// The incident as a device trace: read from standard input, shown record by record, and replayed.
+use controller::{Controller, Numbered, Refusal};
 use dispatch::Dispatcher;
-use replay::{LogRecord, Replayed, replay};
+use replay::{LogRecord, replay, stop_line};
 use std::io;
 use std::io::Read;
 use trace::{Next, Reader, Record};
 
-// More of the input than this is left unread.
-const MOST_BYTES: u64 = 65_536;
+// A trace is at most so long; what comes after these bytes is left out.
+const MOST_BYTES: usize = 65_536;
 
-// Standard input, as far as it is read.
+// The trace on standard input. Of a longer input one more byte is read, to tell that there is more.
 pub(crate) fn read(rt: &HostRuntime) -> io::Result<Vec<u8>> {
     let mut trace = Vec::new(rt.alloc());
-    rt.stdin().take(MOST_BYTES).read_to_end(&mut trace)?;
+    rt.stdin()
+        .take(MOST_BYTES as u64 + 1)
+        .read_to_end(&mut trace)?;
+    if trace.len() > MOST_BYTES {
+        trace.truncate(MOST_BYTES);
+        println!(rt;
+            "The input is longer than {MOST_BYTES} bytes; what comes after them is left out"
+        )?;
+    }
     Ok(trace)
 }
 
 // The trace record by record, up to its end or its first fault.
 pub(crate) fn show(rt: &HostRuntime, trace: &[u8]) -> io::Result<()> {
     let mut reader = Reader::new(trace);
-    // Each record has a byte at least, so there are no more of them than bytes.
+    // As many turns as there are bytes, which no trace has more records than. No iterator of records: at a fault the reader stays, and
+    // the fault's bytes are printed, so each case is spelled out.
     for _ in 0..trace.len() {
         let place = reader.place();
         match reader.next_record() {
@@ -43,11 +52,11 @@ fn show_record(rt: &HostRuntime, record: &Record) -> io::Result<()> {
 
 fn fault(rt: &HostRuntime, place: usize, why: Refusal, rest: &[u8]) -> io::Result<()> {
     let left = rest.len();
-    let number = why.number();
-    println!(rt; "  byte {place}: refused ({number}), {why}; bytes from there on: {left}")
+    let why = Numbered(why);
+    println!(rt; "  byte {place}: {why}; bytes from there on: {left}")
 }
 
-// Replays the trace on a unit just made, into a log of this many records, and prints the log and what was answered.
+// Replays the trace on a unit just made, and prints what was logged and what was answered.
 pub(crate) fn tell<C: Controller + Drop>(
     rt: &HostRuntime,
     controller: C,
@@ -60,18 +69,8 @@ pub(crate) fn tell<C: Controller + Drop>(
         println!(rt; "  {record}")?;
     }
     println!(rt; "  {replayed}")?;
-    stopped(rt, replayed)?;
+    let stop = stop_line(rt.alloc(), &replayed)?;
+    println!(rt; "  {stop}")?;
     let depth = unit.depth();
     println!(rt; "  depth after it: {depth}")
-}
-
-// Why the replay stopped, in plain words.
-fn stopped(rt: &HostRuntime, replayed: Replayed) -> io::Result<()> {
-    let bytes = replayed.bytes;
-    match replayed.fault {
-        None => println!(rt; "  the whole trace was done"),
-        Some(Refusal::UnlawfulMap) => println!(rt; "  the trace is bad at byte {bytes}"),
-        Some(Refusal::CutRecord) => println!(rt; "  the trace is cut at byte {bytes}"),
-        Some(_) => println!(rt; "  the log is full before byte {bytes}"),
-    }
 }
