@@ -24,7 +24,7 @@ fn key(gateway: Gateway) -> Option<Priority>
 fn keys(chip: &Plic<64>) -> [Option<Priority>; 64]
     ensures { ServedKeys chip.now result }
 {
-    // Not `std::array::from_fn`: tried; for 64 places its proof stops at the prover's limit.
+    // Not `std::array::from_fn`: tried; for 64 places the check proves it, but so close to the prover's limit that the gate refuses it.
     let mut leaves = [None; 64];
     for (n, leaf) in leaves.iter_mut().enumerate() {
         *leaf = key(chip.gateway(n as u16));
