@@ -1,4 +1,4 @@
-// A controller: anything that tells the ten things below, by its ten first members, and whose calls do as the rules say.
+// A controller: anything that tells the ten things below, `widths` to `stack`, and whose calls do as the rules say.
 ghost use Rattle.std.specs.Prelude.{◌≡◌, ℕ, Bool, ◌&&◌, List};
 ghost use Rattle.controller.specs.Meaning.{told, Lawful, Keeps};
 ghost use Rattle.controller.specs.Rules.{Rises, Falls, Opens, Shuts, Takes, Finishes, Untouched, Signals, newest};

@@ -6,7 +6,7 @@ ghost use Rattle.trace.specs.Maps.{length_of};
 pub fn record_length(map: u8) -> Option<usize>
     ensures { result ≡ length_of map }
 {
-    // A table, by a rule of the project, which has the lengths in this form. A row for each choice of take and finish, in it an entry for each choice of the acts with a line.
+    // A table by a rule of the project: a row for each choice of take and finish, in it an entry for each choice of the acts with a line.
     const LENGTHS: [[u8; 16]; 4] = [
         [1, 2, 2, 3, 2, 3, 3, 4, 2, 3, 3, 4, 3, 4, 4, 5], // neither; the first entry is of no lawful map
         [1, 2, 2, 3, 2, 3, 3, 4, 2, 3, 3, 4, 3, 4, 4, 5], // take
