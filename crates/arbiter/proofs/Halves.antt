@@ -1,5 +1,5 @@
 -- The better of two halves is the best of the whole.
-use Rattle.std.proofs.Common.{◌≡◌, ℕ, ◌+◌, ◌-◌, ◌<◌, ◌≤◌, Bool, true, false, ◌⊎◌, List, length, take, drop, Some, None, Option, get_or, sym, ap, ◌∙◌, ⊎_elim, arith}
+use Rattle.std.proofs.Common.{◌≡◌, ℕ, ◌+◌, ◌-◌, ◌<◌, ◌≤◌, Bool, true, false, ◌⊎◌, List, [], ◌∷◌, length, take, drop, Some, None, Option, get_or, refl, sym, ap, ◌∙◌, ⊎_elim, arith}
 use Rattle.std.proofs.lemmas.Bool.{cases_lt, false_from_ne_true, cond_both, both_ways}
 use Rattle.std.proofs.lemmas.List.{get_or-take, get_or-drop, length-take, length-drop}
 use Rattle.arbiter.specs.declared.tree.Entrant.{Entrant}
@@ -55,3 +55,10 @@ module _ {K : Type 0} (leq : K → K → Bool) (total : (a b : K) → (leq a b �
         transitive r.key l.key k (⊎_elim (λ t. absurd (both_ways _ e t)) (λ t. t) (total l.key r.key)) (p.4 j k h),
         false_from_ne_true _ (λ t. both_ways _ e (transitive l.key k r.key (p.4 j k h) t)),
       )))
+
+-- Two leaves are what a pattern of two leaves takes out of them.
+pub pair : {A : Type 0} (x y : A) (xs : List A) → 2 ≤ length xs → length xs < 3 → x ≡ get_or xs 0 x → y ≡ get_or xs 1 y → xs ≡ x ∷ y ∷ []
+pair x y (a ∷ b ∷ []) least most is-x is-y = rw is-x (rw is-y refl)
+pair x y [] least most is-x is-y = absurd (omega arith)
+pair x y (a ∷ []) least most is-x is-y = absurd (omega arith)
+pair x y (a ∷ b ∷ c ∷ xs) least most is-x is-y = absurd (omega arith)

@@ -1,6 +1,6 @@
 // A tree of matches over any number of leaves: each match lets the better of two halves go on. A tree and no fold, by a rule of
 // the project: it is how the chips' own arbiters are built.
-ghost use Rattle.std.specs.Prelude.{◌≡◌, ℕ, ◌+◌, ◌^◌, ◌≤◌, length, Option};
+ghost use Rattle.std.specs.Prelude.{◌≡◌, ℕ, ◌+◌, ◌^◌, ◌≤◌, [], ◌∷◌, length, Option};
 ghost use Rattle.arbiter.specs.Winning.{Winner};
 ghost use Rattle.arbiter.specs.Matches.{Best, played};
 
@@ -23,6 +23,13 @@ fn play<K: Key + Copy>(left: Option<Entrant<K>>, right: Option<Entrant<K>>) -> O
     }
 }
 
+// What goes on from one leaf, which has this number.
+fn contend<K: Key + Copy>(leaf: Option<K>, number: usize) -> Option<Entrant<K>>
+    ensures { Best K.leq (leaf ∷ []) number result }
+{
+    leaf.map(|key| Entrant { leaf: number, key })
+}
+
 // The best of the leaves, of which the first is number `from`, by a match between the best of each half.
 fn best<K: Key + Copy>(leaves: &[Option<K>], from: usize) -> Option<Entrant<K>>
     requires { from + length leaves.now ≤ 2 ^ 64 }
@@ -30,7 +37,8 @@ fn best<K: Key + Copy>(leaves: &[Option<K>], from: usize) -> Option<Entrant<K>>
 {
     match leaves {
         [] => None,
-        [leaf] => leaf.map(|key| Entrant { leaf: from, key }),
+        [leaf] => contend(*leaf, from),
+        [left, right] => play(contend(*left, from), contend(*right, from + 1)),
         _ => {
             let (left, right) = leaves.split_at(leaves.len() / 2);
             play(best(left, from), best(right, from + left.len()))
