@@ -36,15 +36,16 @@ pub(crate) fn word<F: Fn(Gateway) -> bool, const N: usize>(
     value
 }
 
-// Writes word w of the enable bits. A bit of the value is shown as the 8259A's levels and a trace's map are, each in its own crate.
+// Writes word w of the enable bits, over its own 32 numbers alone. A bit of the value is shown as the 8259A's levels and a trace's map
+// are, each in its own crate.
 pub(crate) fn enable<const N: usize>(gateways: &mut [Gateway; N], w: usize, value: u32)
+    requires { w < 32 }
     ensures { Enables N gateways.old w value gateways.new }
 {
-    // Over all of them: tried with `skip` and `take`, after which nothing is known of the table. A slice of the word's sources
-    // would need its two ends worked out, and proved to lie in the table, which is no plainer.
-    for (n, gateway) in gateways.iter_mut().enumerate() {
-        if is_source::<N>(n) && n / 32 == w {
-            gateway.set_enabled((value >> (n % 32)) % 2 == 1);
+    // By number: a slice of the word's sources would need its two ends worked out, and proved to lie in the table, which is no plainer.
+    for n in 32 * w..32 * w + 32 {
+        if is_source::<N>(n) {
+            gateways[n].set_enabled((value >> (n % 32)) % 2 == 1);
         }
     }
 }
