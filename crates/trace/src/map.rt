@@ -32,5 +32,5 @@ pub(crate) fn has(map: u8, i: u8) -> bool
 pub fn act_count(map: u8) -> usize
     ensures { result ≡ act_count map }
 {
-    (map % 64).count_ones() as usize
+    (map % (1 << ACT_BITS)).count_ones() as usize
 }
