@@ -31,7 +31,7 @@ const TWO_CHIPS: Devices = Devices {
 const UNWRITTEN: LogRecord = LogRecord::Spurious { depth: 0 };
 
 // How many records a log has room for.
-const MOST_RECORDS: usize = 4_096;
+const MOST_RECORDS: usize = 64;
 
 // A byte that is no lawful map.
 const NO_MAP: u8 = 0x40;
@@ -51,7 +51,7 @@ fn through_controllers(rt: &HostRuntime) -> io::Result<()> {
     println!(rt; "8259A as a controller")?;
     unit::tell(rt, &mut I8259aController::new(), ONE_CHIP)?;
     println!(rt; "PLIC as a controller")?;
-    unit::tell(rt, &mut PlicController::new(priorities()), ONE_CHIP)?;
+    unit::tell(rt, &mut new_unit(ONE_CHIP), ONE_CHIP)?;
     println!(rt; "The old unit as a controller")?;
     unit::tell(rt, &mut old_unit(), TWO_CHIPS)
 }
@@ -60,13 +60,13 @@ fn through_dispatchers(rt: &HostRuntime) -> io::Result<()> {
     println!(rt; "A dispatcher above an 8259A")?;
     dispatched::tell(rt, I8259aController::new(), ONE_CHIP)?;
     println!(rt; "A dispatcher above a PLIC")?;
-    dispatched::tell(rt, PlicController::new(priorities()), ONE_CHIP)?;
+    dispatched::tell(rt, new_unit(ONE_CHIP), ONE_CHIP)?;
     println!(rt; "A dispatcher above the old unit")?;
     dispatched::tell(rt, old_unit(), TWO_CHIPS)
 }
 
-// The trace whole on both units; and on the old unit without its last byte, with a byte after it that is no map, and into a log
-// that is too short for it.
+// The trace whole on both units; and on the old unit without its last byte, into a log that is too short for it, and with a byte
+// after it that is no map.
 fn through_traces(rt: &HostRuntime, mut trace: Vec<u8>) -> io::Result<()> {
     let mut log = [UNWRITTEN; MOST_RECORDS];
     println!(rt; "The trace")?;
@@ -74,23 +74,26 @@ fn through_traces(rt: &HostRuntime, mut trace: Vec<u8>) -> io::Result<()> {
     println!(rt; "The trace replayed on the old unit")?;
     traced::tell(rt, old_unit(), trace.as_slice(), &mut log)?;
     println!(rt; "The trace replayed on the new unit")?;
-    let new_unit = PlicController::new(priorities());
-    traced::tell(rt, new_unit, trace.as_slice(), &mut log)?;
-    println!(rt; "The trace on the old unit, with a log of two records")?;
-    traced::tell(rt, old_unit(), trace.as_slice(), &mut [UNWRITTEN; 2])?;
+    traced::tell(rt, new_unit(TWO_CHIPS), trace.as_slice(), &mut log)?;
     println!(rt; "The trace without its last byte, on the old unit")?;
     let cut = &trace[..trace.len().saturating_sub(1)];
     traced::tell(rt, old_unit(), cut, &mut log)?;
+    println!(rt; "The trace on the old unit, with a log of two records")?;
+    traced::tell(rt, old_unit(), trace.as_slice(), &mut [UNWRITTEN; 2])?;
     println!(rt; "The trace with a bad map after it, on the old unit")?;
     trace.push(NO_MAP)?;
     traced::tell(rt, old_unit(), trace.as_slice(), &mut log)
 }
 
-// The probe's sources 3 and 9 are more urgent than the stirrer's source 5.
-fn priorities() -> [u8; 64] {
-    let mut priorities = [0; 64];
-    priorities[3] = 4;
-    priorities[5] = 2;
-    priorities[9] = 4;
-    priorities
+// A PLIC with the sources of these devices and no other: the probe's is more urgent than the stirrer's.
+fn new_unit(devices: Devices) -> PlicController {
+    PlicController::new(std::array::from_fn(|n| {
+        if n == usize::from(devices.probe) {
+            4
+        } else if n == usize::from(devices.stirrer) {
+            2
+        } else {
+            0
+        }
+    }))
 }
