@@ -13,7 +13,7 @@ Has k w n (Err e) = (e ≡ NotALine) × ((k ≡ None) ⊎ (k ≡ Some n))
 Has k w n (Ok Outer) = (j : ℕ) × (k ≡ Some j) × (n < w) × (n ≢ j)
 Has k w n (Ok (Inner j m)) = (k ≡ Some j) × (w + m ≡ n)
 
-has_part : (k : Option ℕ) (w n : ℕ) → Has k w n (part_of k w n)
+pub has_part : (k : Option ℕ) (w n : ℕ) → Has k w n (part_of k w n)
 has_part None w n = (refl, inl refl)
 has_part (Some j) w n =
     ⊎_elim

@@ -68,7 +68,7 @@ module _ (c : I8259a) (sound : Sound c) where
   signals false s = none-ready (s sound.set_up)
 
 -- A level 7 that is not believed is spurious: nothing was urgent and nothing changed.
-spurious : (c d : I8259a) (n : ℕ) (before after : Bool) → before ≡ shows c Isr 7 → after ≡ shows d Isr 7 → Acknowledges c (Ok n) d → believed n before after ≡ false → TakesLevel c None d
+pub spurious : (c d : I8259a) (n : ℕ) (before after : Bool) → before ≡ shows c Isr 7 → after ≡ shows d Isr 7 → Acknowledges c (Ok n) d → believed n before after ≡ false → TakesLevel c None d
 spurious c d n before after was is a doubt = elim a.1 [
   | inl h ↦
       let seven = not-false _ (or_parts (not (n == 7)) (not before && after) doubt).0 in
