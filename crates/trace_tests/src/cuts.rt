@@ -36,6 +36,7 @@ fn check_stays(rt: &impl Abort, trace: &[u8], reader: &mut Reader, survey: Surve
     assert_eq!(rt; next.fault(), survey.fault, "{trace:?}");
     assert_eq!(rt; next.record().err(), survey.fault, "{trace:?}");
     assert_eq!(rt; next == Next::End, rest.is_empty(), "{trace:?}");
+    assert_eq!(rt; reader.place(), survey.bytes, "{trace:?}");
     for _ in 0..2 {
         assert_eq!(rt; reader.next_record(), next, "{trace:?}");
         assert_eq!(rt; reader.place(), survey.bytes, "{trace:?}");
